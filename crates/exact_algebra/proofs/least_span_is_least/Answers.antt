@@ -1,0 +1,7 @@
+-- The law of this function, as a lemma proves it:
+-- it stands in proofs/Span.antt.
+use Rattle.exact_algebra.proofs.Span.{least_span_is_least}
+use Rattle.exact_algebra.proofs.least_span_is_least.Goals as goal
+
+pub returns : goal.returns
+returns c = least_span_is_least
