@@ -1,0 +1,63 @@
+use crate::{Hull, Point, Points, Station};
+use std::alloc::{AllocError, Global};
+use std::test::Fail;
+
+// Stations at these x, each with these half-breadths and heights.
+fn stations_of(
+    alloc: Global,
+    places: &[i64],
+    offsets: &[(i64, i64)],
+) -> Result<Vec<Station>, AllocError> {
+    let mut stations = Vec::new(alloc);
+    for x in places {
+        let mut points = Vec::new(alloc);
+        for (y, z) in offsets {
+            points.push(Point { y: *y, z: *z })?;
+        }
+        stations.push(Station {
+            x: *x,
+            points: Points::new(points),
+        })?;
+    }
+    Ok(stations)
+}
+
+#[test]
+fn a_hull_has_what_the_rules_say(rt: HostRuntime) -> Result<(), Fail> {
+    let barge = [(10000, 0), (10000, 10000)];
+    for (places, offsets, is_hull) in [
+        ([0, 50000, 100000].as_slice(), barge.as_slice(), true),
+        ([0, 50000, 524287].as_slice(), barge.as_slice(), true),
+        ([0, 50000, 524288].as_slice(), barge.as_slice(), false),
+        ([0, 50000].as_slice(), barge.as_slice(), false),
+        ([0, 50000, 50000].as_slice(), barge.as_slice(), false),
+        (
+            [0, 1, 2].as_slice(),
+            [(0, 0), (65535, 65535)].as_slice(),
+            true,
+        ),
+        ([0, 1, 2].as_slice(), [(0, 0), (65536, 1)].as_slice(), false),
+        ([0, 1, 2].as_slice(), [(1, 0), (1, 0)].as_slice(), false),
+        ([0, 1, 2].as_slice(), [(0, 0), (0, 1)].as_slice(), false),
+        ([0, 1, 2].as_slice(), [(1, 0)].as_slice(), false),
+    ] {
+        let stations = stations_of(rt.alloc(), places, offsets)?;
+        let hull = Hull::of(stations);
+        assert_eq!(rt; hull.is_some(), is_hull, "{places:?} {offsets:?}");
+        if let Some(hull) = hull {
+            assert_eq!(rt; hull.stations().len(), places.len());
+        }
+    }
+    Ok(())
+}
+
+#[test]
+fn points_give_their_list_back(rt: HostRuntime) -> Result<(), Fail> {
+    let points = Points::new(vec![in rt.alloc(); Point { y: 3, z: 4 }]?);
+    assert_eq!(rt; points.as_slice(), [Point { y: 3, z: 4 }].as_slice());
+    assert_eq!(rt;
+        points.into_vec().as_slice(),
+        [Point { y: 3, z: 4 }].as_slice()
+    );
+    Ok(())
+}
