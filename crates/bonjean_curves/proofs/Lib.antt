@@ -1,0 +1,4 @@
+pub mod Quotients
+pub mod Strips
+pub mod Passed
+pub mod Least

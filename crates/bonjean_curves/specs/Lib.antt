@@ -1,0 +1,2 @@
+pub mod Trapezium
+pub mod Quotient

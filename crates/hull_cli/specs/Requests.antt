@@ -1,0 +1,7 @@
+-- The code's requests, as forms of words.
+use Rattle.hull_cli.specs.declared.words.Request.{Request}
+use Rattle.hull_cli.specs.declared.words.Request.TheVariants as request
+use Rattle.hull_cli.specs.Words.{Form, section}
+
+abbrev pub form_seen : Request → Form
+form_seen (request.Section offsets station draft) = section offsets.now station draft

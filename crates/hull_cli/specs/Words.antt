@@ -1,0 +1,39 @@
+-- The forms of words.
+use Rattle.std.specs.Prelude.{ℕ, ◌≤◌, Bool, false, ◌==◌, ◌&&◌, not, nat_le, if◌then◌else◌, List, [], ◌∷◌, length, Option, Some, None, codes}
+use Rattle.std.specs.Char.{is_ascii_digit}
+use Rattle.std.specs.List.{list_all}
+use Rattle.std.specs.Str.{bytes_eq}
+use Rattle.std.specs.Str.Parse.{digits_value}
+
+-- what the words ask for
+pub data Form : Type 0 where
+  -- the offset file's name, a station counted from 0, a draft in mm
+  section : List ℕ → ℕ → ℕ → Form
+
+-- a file's name: a word that isn't empty and doesn't begin with a dash
+abbrev pub is_name_word : List ℕ → Bool
+is_name_word [] = false
+is_name_word (first ∷ rest) = not (first == 45)
+
+-- a word of one to six decimal digits
+abbrev pub is_number_word : List ℕ → Bool
+is_number_word word = (nat_le 1 (length word) && nat_le (length word) 6) && list_all is_ascii_digit word
+
+-- the number of such a word, where it is at most this
+abbrev pub number_in : ℕ → List ℕ → Option ℕ
+number_in most word = if is_number_word word && nat_le (digits_value 10 word) most then Some (digits_value 10 word) else None
+
+-- section OFFSETS STATION DRAFT
+abbrev pub section_form : List ℕ → Option ℕ → Option ℕ → Option Form
+section_form offsets (Some station) (Some draft) = if is_name_word offsets then Some (section offsets station draft) else None
+section_form offsets _ _ = None
+
+-- the form of these words, if they have one
+abbrev pub form_of : List (List ℕ) → Option Form
+form_of (command ∷ offsets ∷ station ∷ draft ∷ []) =
+    if bytes_eq command (codes "section") then section_form offsets (number_in 999999 station) (number_in 131071 draft) else None
+form_of words = None
+
+-- a form's draft is at most 131071 mm
+abbrev pub IsDraftWithin : Form → Type 0
+IsDraftWithin (section offsets station draft) = draft ≤ 131071

@@ -1,0 +1,91 @@
+// The forms of words.
+ghost use Rattle.std.specs.Prelude.{◌≡◌, ◌≤◌, IfSome, map, option_map, string_bytes, if◌then◌else◌};
+ghost use Rattle.std.specs.Char.{is_ascii_digit};
+ghost use Rattle.std.specs.List.{list_all};
+ghost use Rattle.hull_cli.specs.Requests.{form_seen};
+ghost use Rattle.hull_cli.specs.Words.{form_of, IsDraftWithin, section_form, is_name_word, is_number_word, number_in};
+
+/// The most digits of a station's number and of a draft.
+const MOST_DIGITS: usize = 6;
+
+/// The greatest number of so many digits.
+const MOST_STATION: u32 = 999_999;
+
+/// The greatest draft, in mm.
+const MOST_DRAFT: u32 = 131_071;
+
+/// What the words ask for: a command with its names and numbers.
+#[derive(Clone, Copy, Debug)]
+pub(crate) enum Request<'a> {
+    /// `section OFFSETS STATION DRAFT`: stations count from 0, the draft is in mm.
+    Section {
+        offsets: &'a str,
+        station: u32,
+        draft: u32,
+    },
+}
+
+/// The request that the words make, or None where they are in no form.
+pub(crate) fn request_of(words: &[String]) -> Option<Request<'_>>
+    ensures form { option_map form_seen result ≡ form_of (map string_bytes words.now) }
+    ensures draft { IfSome result (λ request. IsDraftWithin (form_seen request)) }
+{
+    match words {
+        [command, offsets, station, draft] if command.as_str() == "section" => {
+            section_request(offsets.as_str(), station.as_str(), draft.as_str())
+        }
+        _ => None,
+    }
+}
+
+fn section_request<'a>(offsets: &'a str, station: &str, draft: &str) -> Option<Request<'a>>
+    ensures form { option_map form_seen result ≡ section_form offsets.now (number_in 999999 station.now) (number_in 131071 draft.now) }
+    ensures draft { IfSome result (λ request. IsDraftWithin (form_seen request)) }
+{
+    let station = number_of(station, MOST_STATION)?;
+    let draft = number_of(draft, MOST_DRAFT)?;
+    if !is_name(offsets) {
+        return None;
+    }
+    Some(Request::Section {
+        offsets,
+        station,
+        draft,
+    })
+}
+
+// A file's name: a word that isn't empty and doesn't begin with a dash.
+fn is_name(word: &str) -> bool
+    ensures { result ≡ is_name_word word.now }
+{
+    match word.as_bytes() {
+        [] => false,
+        [first, ..] => *first != b'-',
+    }
+}
+
+// A number of one to six decimal digits, at most this.
+fn number_of(word: &str, most: u32) -> Option<u32>
+    ensures value { result ≡ number_in most word.now }
+    ensures within { IfSome result (λ number. number ≤ most) }
+{
+    if !is_number(word) {
+        return None;
+    }
+    match word.parse::<u32>() {
+        Ok(number) => { if number <= most { Some(number) } else { None } }
+        Err(_) => None,
+    }
+}
+
+fn is_number(word: &str) -> bool
+    ensures { result ≡ is_number_word word.now }
+{
+    1 <= word.len() && word.len() <= MOST_DIGITS && are_digits(word.as_bytes())
+}
+
+fn are_digits(bytes: &[u8]) -> bool
+    ensures { result ≡ list_all is_ascii_digit bytes.now }
+{
+    bytes.iter().all(|b| b.is_ascii_digit())
+}

@@ -1,0 +1,9 @@
+pub mod HeightFacts
+pub mod HullFacts
+pub mod KeptFacts
+pub mod LimitFacts
+pub mod NumberFacts
+pub mod OffsetFacts
+pub mod RecordFacts
+pub mod RowFacts
+pub mod StationFacts
