@@ -2,8 +2,9 @@
 use super::{BARGE, outcome_of};
 use std::test::Fail;
 
-// The exit code, the first line that is written, and the words, parted by a bar.
+// The exit code, the first line that is written, and the words, parted by a bar (no text: no words).
 const LISTS: &str = "\
+3=refused usage=\n\
 0=hullcert 1 section=section|barge.csv|1|5000\n\
 0=hullcert 1 section=section|barge.csv|0|0\n\
 0=hullcert 1 section=section|barge.csv|2|131071\n\
