@@ -1,4 +1,4 @@
-use crate::{Figure, Span, decimal_out};
+use crate::{Span, decimal_out};
 use std::test::Fail;
 
 #[test]
@@ -23,7 +23,7 @@ fn figures_are_rounded_outwards_and_printed_in_full(rt: HostRuntime) -> Result<(
         assert!(rt; lo.unsigned_abs() < 1 << 96 && hi.unsigned_abs() < 1 << 96);
         assert!(rt; shift <= 12 && places <= 9);
         let figure = span.figure(shift, places);
-        assert_eq!(rt; figure, Figure { lo: low, hi: high });
+        assert_eq!(rt; (figure.lo, figure.hi), (low, high));
         let printed = decimal_out(rt.alloc(), figure, places)?;
         assert_eq!(rt; printed.as_str(), text);
     }

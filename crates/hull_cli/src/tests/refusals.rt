@@ -98,3 +98,29 @@ fn each_file_is_refused_by_its_first_fault(rt: HostRuntime) -> Result<(), Fail> 
     }
     Ok(())
 }
+
+#[test]
+fn too_many_stations_and_points_are_refused(rt: HostRuntime) -> Result<(), Fail> {
+    let alloc = rt.alloc();
+    let mut stations = String::new(alloc);
+    for x in 0..65 {
+        let rows = format!(in alloc; "{x},1,0\n{x},1,9\n")?;
+        stations.push_str(rows.as_str())?;
+    }
+    let mut points = String::new(alloc);
+    for z in 0..33 {
+        let row = format!(in alloc; "0,1,{z}\n")?;
+        points.push_str(row.as_str())?;
+    }
+    points.push_str("5,1,0\n5,1,9\n9,1,0\n9,1,9\n")?;
+    for (file, line) in [
+        (&stations, "refused offsets toomanystations 129\n"),
+        (&points, "refused offsets toomanypoints 1\n"),
+    ] {
+        let words = "section|hull.csv|0|5";
+        let outcome = outcome_of(alloc, words, "hull.csv", file.as_bytes())?;
+        assert_eq!(rt; outcome.status, Status::Refused);
+        assert_eq!(rt; outcome.text.as_str(), line);
+    }
+    Ok(())
+}
