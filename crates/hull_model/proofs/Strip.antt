@@ -73,7 +73,7 @@ magnitude-middle y z u v d n h = magnitude-nonnegative _ _ (Order.nonnegative-mu
     (ring fraction_ring (y ∷ z ∷ u ∷ v ∷ d ∷ []) ((var 0 :- var 2) :* (var 4 :- var 4) :- (var 3 :- var 2) :* (var 1 :- var 4)) ((var 3 :- var 2) :* (var 4 :- var 1)) refl)
 
 -- ---- which pieces are kept
-linear : (d : Fraction) → Cut.IsLinear (under d)
+pub linear : (d : Fraction) → Cut.IsLinear (under d)
 linear d t p q = ring fraction_ring (d ∷ t ∷ p.z ∷ q.z ∷ []) (var 0 :- ((unit :- var 1) :* var 2 :+ var 1 :* var 3)) ((unit :- var 1) :* (var 0 :- var 2) :+ var 1 :* (var 0 :- var 3)) refl
 
 pub below_of : (z d : Fraction) → d ≺ z → sign (d ⊖ z) ≡ below

@@ -1,10 +1,11 @@
 -- The exact section of a station below a draft: the area and the first moment about the base of its full breadth.
-use Rattle.std.specs.Prelude.{ℕ, pos, List, [], ◌∷◌, ◌++◌}
+use Rattle.std.specs.Prelude.{◌≡◌, ℕ, pos, List, [], ◌∷◌, ◌++◌}
 use Rattle.exact_algebra.proofs.Fraction.{Fraction, nought, ◌⊕◌, ◌⊗◌, ◌⊖◌, inverse}
 use Rattle.exact_algebra.proofs.Whole.{whole}
 use Rattle.hull_model.specs.declared.point.Point.{Point}
 use Rattle.hull_model.specs.Fractions.{magnitude, interpolated, sum_over}
-use Rattle.hull_model.specs.TriangleCut.{Triangle, triangle, Corners, kept_pieces}
+use Rattle.std.specs.List.{AllByRecursion}
+use Rattle.hull_model.specs.TriangleCut.{Triangle, triangle, Corners, uncut, split, pieces, kept_pieces}
 
 -- a half-breadth and a height
 pub record Offset : Type 0 where
@@ -57,3 +58,7 @@ section_area points draft = whole (pos 2) ⊗ sum_over area_of (wet_triangles (w
 
 unfoldable pub section_moment : List Point → ℕ → Fraction
 section_moment points draft = whole (pos 2) ⊗ sum_over moment_of (wet_triangles (whole (pos draft)) points)
+
+-- the pieces that a triangle is cut into have no edge left to split, at any draft
+abbrev pub NothingIsLeftToSplit : Type 0
+NothingIsLeftToSplit = (draft : Fraction) (t : Triangle Offset) → AllByRecursion (λ p. split (under draft) p ≡ uncut) (pieces (under draft) 3 t)
