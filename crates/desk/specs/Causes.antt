@@ -18,3 +18,10 @@ abbrev pub AppendedIfTold : Option (List ℕ) → Option (List ℕ) → List ℕ
 AppendedIfTold before None piece = Unit {0}
 AppendedIfTold None (Some now) piece = ⊥
 AppendedIfTold (Some before) (Some now) piece = now ≡ before ++ piece
+
+-- the counts of faults of a kind of shelf, and of a kind of sink, are the constant 0
+abbrev pub NeverFails : {A : Type 0} → (A → List ℕ → ℕ) → Type 0
+NeverFails {A} faults = (shelf : A) (name : List ℕ) → faults shelf name ≡ 0
+
+abbrev pub NeverFailsToTake : {A : Type 0} → (A → ℕ) → Type 0
+NeverFailsToTake {A} faults = (sink : A) → faults sink ≡ 0

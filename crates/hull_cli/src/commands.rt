@@ -1,6 +1,6 @@
 // The top call: from words to the bytes of a report.
-ghost use Rattle.std.specs.Prelude.{◌≡◌, ◌≤◌, ◌<◌, ◌⊎◌, true, false, List, ℕ, pos, Some, None, IfOk, IfErr, map, length, take, sum_by, string_bytes};
-ghost use Rattle.desk.specs.Causes.{Rose, AppendedIfTold};
+ghost use Rattle.std.specs.Prelude.{◌≡◌, ◌≢◌, ◌≤◌, ◌<◌, ◌⊎◌, true, false, List, ℕ, pos, Some, None, IfOk, IfErr, map, length, take, sum_by, string_bytes};
+ghost use Rattle.desk.specs.Causes.{Rose, NeverFails, NeverFailsToTake, AppendedIfTold};
 ghost use Rattle.hull_model.specs.Body.{IsWithin};
 ghost use Rattle.hull_cli.specs.Answers.{Answers, CanBeGiven, Decides, Reports, ReportsOn};
 ghost use Rattle.hull_cli.specs.Report.{IsSectionReport, points_count};
@@ -36,6 +36,9 @@ pub fn run<S: Shelf, K: Sink>(alloc: Global, words: &[String], shelf: &mut S, ou
         form
         → ¬ (Rose (K.faults out.old) (K.faults out.new))
         → (result ≡ Status.Done) ⊎ (result ≡ Status.NoMemory) }
+
+    // Over stores that never fail, as `SureShelf` and `SureSink`.
+    ensures sure { NeverFails S.faults → NeverFailsToTake K.faults → (result ≢ Status.ReadFault) × (result ≢ Status.WriteFault) }
 {
     match answer_of(alloc, words, shelf) {
         Ok(answer) => {

@@ -6,7 +6,6 @@ mod reading;
 mod report;
 mod status;
 mod stop;
-mod sure;
 mod words;
 
 pub use commands::run;
@@ -16,7 +15,6 @@ use std::env;
 use std::io::ErrorKind;
 use std::process::ExitCode;
 use std::rt::Runtime;
-pub use sure::run_surely;
 
 // The words of the command line, without the program's name; none where one of them isn't text.
 fn words_of(rt: &(impl Runtime + AllocGlobal)) -> Result<Vec<String>, Status> {

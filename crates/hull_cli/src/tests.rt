@@ -2,7 +2,9 @@ mod cargo;
 mod refusals;
 mod words;
 
-use crate::{Status, run, run_surely};
+ghost use Rattle.std.specs.Prelude.{◌≢◌};
+
+use crate::{Status, run};
 use desk::{MemShelf, MemSink, SureShelf, SureSink};
 use std::alloc::{AllocError, Global};
 use std::test::Fail;
@@ -105,6 +107,14 @@ fn a_failing_fetch_and_a_full_sink_have_their_statuses(rt: HostRuntime) -> Resul
     let (kept, _) = BARGE_REPORT.split_at(60);
     assert_eq!(rt; out.taken(), kept.as_bytes());
     Ok(())
+}
+
+// The top call at stores that never fail: neither a read fault nor a write fault can come.
+fn run_surely(alloc: Global, words: &[String], shelf: &mut SureShelf, out: &mut SureSink) -> Status
+    ensures no_read_fault { result ≢ Status.ReadFault }
+    ensures no_write_fault { result ≢ Status.WriteFault }
+{
+    run(alloc, words, shelf, out)
 }
 
 #[test]
