@@ -10,5 +10,6 @@ pub mod Bounds
 pub mod Whole
 pub mod Division
 pub mod Span
+pub mod Products
 pub mod Laws
 pub mod Examples

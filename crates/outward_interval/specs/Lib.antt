@@ -1,3 +1,5 @@
+pub mod Ends
 pub mod Kept
+pub mod Laws
 pub mod Printed
 pub mod Text

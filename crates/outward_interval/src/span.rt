@@ -12,8 +12,8 @@ const REACH: u128 = 1 << 126;
 /// the quantity itself (mm, mm², ..) is said where a span is handed out.
 #[derive(Clone, Copy, Debug, PartialEq, Eq)]
 pub struct Span<const F: u32> {
-    lo: i128,
-    hi: i128,
+    pub(crate) lo: i128,
+    pub(crate) hi: i128,
     ghost ordered: { lo ≤ℤ hi },
     ghost low: { MagnitudeBelow 126 lo },
     ghost high: { MagnitudeBelow 126 hi },
