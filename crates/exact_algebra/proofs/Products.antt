@@ -169,19 +169,28 @@ extremes_apart a b c d ab cd = moved g (spread a b c d) (least_of (a *ℤ c) (a 
         of : (x y : ℤ) → a ≤ℤ x → x ≤ℤ b → c ≤ℤ y → y ≤ℤ d → (x *ℤ y) ≤ℤ n
         of x y ax xb cy yd = whole_products_apart a b c d x u y v ax xb au ub cy yd cv vd
 
+-- the floor of low_end / d and the ceiling of high_end / d lie no further apart, in units of 1 / d, than these two, and one unit for each end
+pub rounded-width : (low_end high_end : ℤ) (d : ℕ) (lo hi : ℤ) → IsFloor low_end d lo → IsCeiling high_end d hi → ((hi -ℤ lo) *ℤ pos d) ≤ℤ ((high_end -ℤ low_end) +ℤ pos (2 * d))
+rounded-width low_end high_end d lo hi low high =
+    go ((hi -ℤ lo) *ℤ pos d) ((lo +ℤ pos 1) *ℤ pos d) ((hi -ℤ pos 1) *ℤ pos d) (lo *ℤ pos d) (hi *ℤ pos d)
+    (ring integers (lo ∷ hi ∷ pos d ∷ []) ((var 1 :- var 0) :* var 2) (var 1 :* var 2 :- var 0 :* var 2) refl)
+    (ring integers (lo ∷ pos d ∷ []) ((var 0 :+ unit) :* var 1) (var 0 :* var 1 :+ var 1) refl)
+    (ring integers (hi ∷ pos d ∷ []) ((var 0 :- unit) :* var 1) (var 0 :* var 1 :- var 1) refl)
+    low.next high.before
+  where
+    go : (x y z p q : ℤ) → x ≡ q -ℤ p → y ≡ p +ℤ pos d → z ≡ q -ℤ pos d → low_end <ℤ y → z <ℤ high_end → x ≤ℤ ((high_end -ℤ low_end) +ℤ pos (2 * d))
+    go x y z p q e f h m n = omega (arith, ints)
+
 -- a product rounded outwards is no wider, in units, than each magnitude times the other's width, and one unit for each end
 pub rounded_product-width : (k : ℕ) (a b c d lo hi : ℤ) → a ≤ℤ b → c ≤ℤ d
     → IsFloor (least_of (a *ℤ c) (a *ℤ d) (b *ℤ c) (b *ℤ d)) k lo → IsCeiling (greatest_of (a *ℤ c) (a *ℤ d) (b *ℤ c) (b *ℤ d)) k hi
     → ((hi -ℤ lo) *ℤ pos k) ≤ℤ ((pos (magnitude a b) *ℤ (d -ℤ c) +ℤ pos (magnitude c d) *ℤ (b -ℤ a)) +ℤ pos (2 * k))
 rounded_product-width k a b c d lo hi ab cd low high =
-    go ((hi -ℤ lo) *ℤ pos k) ((lo +ℤ pos 1) *ℤ pos k) ((hi -ℤ pos 1) *ℤ pos k) (lo *ℤ pos k) (hi *ℤ pos k) k (least_of (a *ℤ c) (a *ℤ d) (b *ℤ c) (b *ℤ d)) (greatest_of (a *ℤ c) (a *ℤ d) (b *ℤ c) (b *ℤ d)) (spread a b c d)
-    (ring integers (lo ∷ hi ∷ pos k ∷ []) ((var 1 :- var 0) :* var 2) (var 1 :* var 2 :- var 0 :* var 2) refl)
-    (ring integers (lo ∷ pos k ∷ []) ((var 0 :+ unit) :* var 1) (var 0 :* var 1 :+ var 1) refl)
-    (ring integers (hi ∷ pos k ∷ []) ((var 0 :- unit) :* var 1) (var 0 :* var 1 :- var 1) refl)
-    low.next high.before (extremes_apart a b c d ab cd)
+    go ((hi -ℤ lo) *ℤ pos k) (least_of (a *ℤ c) (a *ℤ d) (b *ℤ c) (b *ℤ d)) (greatest_of (a *ℤ c) (a *ℤ d) (b *ℤ c) (b *ℤ d)) (spread a b c d) (pos (2 * k))
+    (rounded-width (least_of (a *ℤ c) (a *ℤ d) (b *ℤ c) (b *ℤ d)) (greatest_of (a *ℤ c) (a *ℤ d) (b *ℤ c) (b *ℤ d)) k lo hi low high) (extremes_apart a b c d ab cd)
   where
-    go : (x y z p q : ℤ) (k : ℕ) (l g w : ℤ) → x ≡ q -ℤ p → y ≡ p +ℤ pos k → z ≡ q -ℤ pos k → l <ℤ y → z <ℤ g → g ≤ℤ (l +ℤ w) → x ≤ℤ (w +ℤ pos (2 * k))
-    go x y z p q k l g w e f h m n o = omega (arith, ints)
+    go : (x l g w t : ℤ) → x ≤ℤ ((g -ℤ l) +ℤ t) → g ≤ℤ (l +ℤ w) → x ≤ℤ (w +ℤ t)
+    go x l g w t h k = omega (arith, ints)
 
 -- ---- products with a number of another scale, and other scales
 pub contains_scaled_product : {F G : ℕ} {a b c d lo hi : ℤ} {x y : Fraction} → ContainsFraction F a b x → ContainsFraction G c d y

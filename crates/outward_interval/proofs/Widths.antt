@@ -5,7 +5,7 @@ use Rattle.std.specs.Int.{int_min, int_max}
 use Rattle.exact_algebra.specs.Expression.{var, unit, number, ◌:+◌, ◌:-◌, ◌:*◌, opposite}
 use Rattle.exact_algebra.proofs.Ring.{ring}
 use Rattle.exact_algebra.proofs.WholeNumbers.{integers}
-use Rattle.exact_algebra.proofs.Products.{magnitude}
+use Rattle.exact_algebra.proofs.Products.{magnitude, rounded-width}
 use Rattle.exact_algebra.specs.Span.{IsFloor, IsCeiling}
 use Rattle.outward_interval.specs.Ends.{AreLeastEnds, AreQuotientEnds, least_divisor, greatest_divisor}
 use Rattle.outward_interval.proofs.Quotients.{le-times}
@@ -20,21 +20,9 @@ two_differences one s p m o d r h e f = rw (f, e) (go ((p +ℤ m +ℤ o) *ℤ po
     go : (x y a b c t : ℤ) → x ≡ (a +ℤ b) +ℤ c → y ≡ (t +ℤ b) +ℤ c → a ≤ℤ (s +ℤ t) → x ≤ℤ (s +ℤ y)
     go x y a b c t e f h = omega (arith, ints)
 
--- a least span is no wider, in units of 1 / d, than what it holds, and one unit for each end
-pub rounded-width : (low_end high_end : ℤ) (d : ℕ) (lo hi : ℤ) → AreLeastEnds low_end high_end d lo hi → ((hi -ℤ lo) *ℤ pos d) ≤ℤ ((high_end -ℤ low_end) +ℤ pos (2 * d))
-rounded-width low_end high_end d lo hi ends =
-    go ((hi -ℤ lo) *ℤ pos d) ((lo +ℤ pos 1) *ℤ pos d) ((hi -ℤ pos 1) *ℤ pos d) (lo *ℤ pos d) (hi *ℤ pos d)
-    (ring integers (lo ∷ hi ∷ pos d ∷ []) ((var 1 :- var 0) :* var 2) (var 1 :* var 2 :- var 0 :* var 2) refl)
-    (ring integers (lo ∷ pos d ∷ []) ((var 0 :+ unit) :* var 1) (var 0 :* var 1 :+ var 1) refl)
-    (ring integers (hi ∷ pos d ∷ []) ((var 0 :- unit) :* var 1) (var 0 :* var 1 :- var 1) refl)
-    ends.low.next ends.high.before
-  where
-    go : (x y z p q : ℤ) → x ≡ q -ℤ p → y ≡ p +ℤ pos d → z ≡ q -ℤ pos d → low_end <ℤ y → z <ℤ high_end → x ≤ℤ ((high_end -ℤ low_end) +ℤ pos (2 * d))
-    go x y z p q e f h m n = omega (arith, ints)
-
 -- a span of another scale
 pub rescaled-width : (f g : ℕ) (a b lo hi : ℤ) → AreLeastEnds (a *ℤ pos g) (b *ℤ pos g) f lo hi → ((hi -ℤ lo) *ℤ pos f) ≤ℤ (((b -ℤ a) *ℤ pos g) +ℤ pos (2 * f))
-rescaled-width f g a b lo hi ends = rw (ring integers (a ∷ b ∷ pos g ∷ []) ((var 1 :- var 0) :* var 2) (var 1 :* var 2 :- var 0 :* var 2) refl) (rounded-width (a *ℤ pos g) (b *ℤ pos g) f lo hi ends)
+rescaled-width f g a b lo hi ends = rw (ring integers (a ∷ b ∷ pos g ∷ []) ((var 1 :- var 0) :* var 2) (var 1 :* var 2 :- var 0 :* var 2) refl) (rounded-width (a *ℤ pos g) (b *ℤ pos g) f lo hi ends.low ends.high)
 
 -- a whole multiple is as many times as wide
 pub times_whole-width : (a b n lo hi : ℤ) → a ≤ℤ b → lo ≡ int_min (a *ℤ n) (b *ℤ n) → hi ≡ int_max (a *ℤ n) (b *ℤ n) → hi -ℤ lo ≡ pos (unsigned_abs n) *ℤ (b -ℤ a)

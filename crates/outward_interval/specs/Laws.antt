@@ -1,4 +1,4 @@
--- Laws of the operators on spans: what the results contain, and how wide they are. Generic code over spans uses these alone.
+-- Laws of the operators on spans: what the results contain, and how wide they are. With these a span meets `Encloses`.
 use Rattle.std.specs.Prelude.{◌≡◌, ℕ, ◌*◌, ◌^◌, ℤ, pos, neg_ℤ, ◌+ℤ◌, ◌-ℤ◌, ◌*ℤ◌, ◌≤ℤ◌}
 use native.Mathlib.Omega.{arith}
 use borrow.Author.Differences.{ints}

@@ -4,9 +4,11 @@ ghost use Rattle.exact_algebra.proofs.Fraction.{Fraction, ◌⊖◌, ◌⊗◌};
 
 use crate::Encloses;
 
-/// What `x_end` times `volume` has over `moment` and `owed` together.
+/// What `x_end` times `volume` has over `moment` and `owed` together: `x_end · volume - moment - owed`.
 ///
-/// The condition is that of its one product and its two differences.
+/// `moment` and `owed` are in the unit of the product, as mm⁴ for an `x_end` in mm and a `volume` in mm³; so is the
+/// answer, which contains the value for all that the four contain. The condition is that of its one product and its
+/// two differences.
 pub fn excess<E: Encloses>(x_end: E, volume: E, moment: E, owed: E) -> E
     requires product { E.can_mul x_end volume }
     requires less_moment { (p : E) → E.mul_gives x_end volume p → E.can_sub p moment }

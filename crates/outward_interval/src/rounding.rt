@@ -57,22 +57,15 @@ pub(crate) fn ceiling_shift(n: i128, shift: u32) -> i128
     opposite(floor_shift(opposite(n), shift))
 }
 
-fn floor_over(n: i128, d: u64) -> i128
-    requires { 0 < d }
-    ensures floor { IsFloor n d result }
-    ensures size { MagnitudeBelow 126 n → MagnitudeBelow 126 result }
-{
-    n.div_euclid(i128::from(d))
-}
-
 /// The floor of n / (2^shift · d).
 pub(crate) fn floor_of(n: i128, shift: u32, d: u64) -> i128
     requires shift { shift ≤ 60 }
     requires divisor { 0 < d }
+    requires size { MagnitudeBelow 126 n }
     ensures floor { IsFloor n (2 ^ shift * d) result }
-    ensures size { MagnitudeBelow 126 n → MagnitudeBelow 126 result }
+    ensures size { MagnitudeBelow 126 result }
 {
-    floor_over(floor_shift(n, shift), d)
+    floor_div(floor_shift(n, shift), i128::from(d))
 }
 
 /// The ceiling of n / (2^shift · d).

@@ -249,6 +249,43 @@ fn scales_change_outwards(rt: HostRuntime) -> Result<(), Fail> {
     Ok(())
 }
 
+#[test]
+fn other_scales_are_met_outwards(rt: HostRuntime) -> Result<(), Fail> {
+    for (lo, hi, fine_low, fine_high, half_low, half_high) in [
+        (5, 7, 20, 28, 2, 4),
+        (-5, 16, -20, 64, -3, 8),
+        (-16, -15, -64, -60, -8, -7),
+    ] {
+        let span: Span<4> = Span::new(lo, hi).ok_or("no span")?;
+        let fine = finer(span).ok_or("no finer span")?;
+        assert_eq!(rt; (fine.lo(), fine.hi()), (fine_low, fine_high));
+        let half: Span<1> = Span::new(1, 1).ok_or("no span")?;
+        let halved = scaled(span, half).ok_or("no product")?;
+        assert_eq!(rt; (halved.lo(), halved.hi()), (half_low, half_high));
+    }
+    Ok(())
+}
+
+fn finer(span: Span<4>) -> Option<Span<6>> {
+    if is_small_product(span.lo, 4) && is_small_product(span.hi, 4) {
+        Some(span.rescale())
+    } else {
+        None
+    }
+}
+
+fn scaled(a: Span<4>, b: Span<1>) -> Option<Span<4>> {
+    if is_small_product(a.lo, b.lo)
+        && is_small_product(a.lo, b.hi)
+        && is_small_product(a.hi, b.lo)
+        && is_small_product(a.hi, b.hi)
+    {
+        Some(a.scaled_by(b))
+    } else {
+        None
+    }
+}
+
 fn times_whole(span: Span<4>, n: i128) -> Option<Span<4>> {
     if is_small_product(span.lo, n) && is_small_product(span.hi, n) {
         Some(span.times_whole(n))

@@ -4,7 +4,7 @@ use Rattle.std.specs.Int.{w128}
 use mir.Val.{SFits}
 use Rattle.outward_interval.proofs.Contained.{whole_quotient_contains}
 use Rattle.outward_interval.proofs.Signed.{fits}
-use Rattle.outward_interval.proofs.Widths.{rounded-width}
+use Rattle.exact_algebra.proofs.Products.{rounded-width}
 use Rattle.outward_interval.proofs.span.Span.over_whole.Goals as goal
 
 pub returns-clause-contains : goal.returns-clause-contains
@@ -21,4 +21,4 @@ returns-clause-width g c =
     let b : SFits w128 c.args.self.hi = fits c.args.self.high in
     let n : SFits w128 c.args.n = c.ranges.n in
     let ends = simp to_z-of_z at c.divided.ensures in
-    rounded-width c.args.self.lo c.args.self.hi (unsigned_abs c.args.n) c.divided.result.lo c.divided.result.hi ends
+    rounded-width c.args.self.lo c.args.self.hi (unsigned_abs c.args.n) c.divided.result.lo c.divided.result.hi ends.low ends.high
