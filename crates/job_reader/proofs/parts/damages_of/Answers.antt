@@ -1,0 +1,22 @@
+use Rattle.std.proofs.Common.{◌≡◌, true, false, ◌+◌, map, []}
+use Rattle.job_reader.specs.Checks.{flooded_fault}
+use Rattle.job_reader.proofs.Apart.{flooded_known, flooded_differ, ends_apart, slabs_apart}
+use Rattle.job_reader.proofs.Firsts.{none_at}
+use Rattle.job_reader.proofs.parts.damages_of.Goals as goal
+
+pub slabs_of-requires : goal.slabs_of-requires
+slabs_of-requires c =
+    let i = c.loop-case.case-index in
+    let known = map (λ x. x.0) c.args.compartments.now in
+    let none = none_at (λ x. x.value) (λ entry before names. flooded_fault known entry names) c.args.cases.now i _ c.requires.flooded c.loop-case-test.true in
+    rw (c.as_slice.ensures, c.case-item.is) (flooded_known c.args.compartments.now (i + 1) 1 [] _ none)
+
+pub unreachable-requires : goal.unreachable-requires
+unreachable-requires c =
+    let i = c.loop-case.case-index in
+    let known = map (λ x. x.0) c.args.compartments.now in
+    let none = none_at (λ x. x.value) (λ entry before names. flooded_fault known entry names) c.args.cases.now i _ c.requires.flooded c.loop-case-test.true in
+    let same = rw (c.as_slice.ensures, c.case-item.is) at c.in_ok-slabs.ensures in
+    let apart = slabs_apart c.args.compartments.now _ c.in_ok-slabs.slabs.items (ends_apart _ c.requires.apart) (flooded_differ known (i + 1) _ none) same in
+    let no : false ≡ true = c.in-None.ensures.some.1 apart in
+    (cc)

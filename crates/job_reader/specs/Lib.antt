@@ -1,0 +1,10 @@
+pub mod Keys
+pub mod Names
+pub mod Limits
+pub mod Rules
+pub mod Faults
+pub mod Values
+pub mod Entries
+pub mod Checks
+pub mod Job
+pub mod Parts

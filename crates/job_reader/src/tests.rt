@@ -1,0 +1,163 @@
+mod jobs;
+
+use crate::{Damage, Job, JobFault, Key, Name, read_job};
+use hull_model::Slab;
+use jobs::JOBS;
+use std::alloc::Global;
+use std::test::Fail;
+
+const BASE: &str = "version = 1;density = 1025;length_bp = 100000;";
+
+const CARGO: &str = "version = 1\ndensity = 1025\nlength_bp = 100000\n\
+drafts = [2000, 4000, 6000, 8000]\ndisplacements = [6000000, 8380000]\n\
+item = [\n\
+{name = 'steel', mass = 2400000, x = 47000, z = 6800},\n\
+{name = 'engine', mass = 300000, x = 14000, z = 4500},\n\
+{name = 'house', mass = 250000, x = 12000, z = 15000},\n\
+{name = 'hold1', mass = 1300000, x = 78000, z = 6200},\n\
+{name = 'hold2', mass = 1500000, x = 58000, z = 6000},\n\
+{name = 'hold3', mass = 1500000, x = 38000, z = 6000},\n\
+{name = 'fuel_p', mass = 120000, x = 24000, z = 3500, free_surface = 100000},\n\
+{name = 'fuel_s', mass = 120000, x = 24000, z = 3500, free_surface = 100000},\n\
+{name = 'fresh', mass = 60000, x = 8000, z = 8000, free_surface = 20000},\n\
+{name = 'stores', mass = 20000, x = 90000, z = 11000},\n\
+{name = 'ballast', mass = 800000, x = 52000, z = 700},\n\
+{name = 'crew', mass = 10000, x = 12000, z = 13000}]\n\
+opening = [{name = 'vent', y = 6000, z = 13500}, {name = 'door', y = 3000, z = 14500}]\n\
+compartment = [\n\
+{name = 'forehold', from = 70000, to = 85000, permeability = 700},\n\
+{name = 'midhold', from = 50000, to = 66000, permeability = 700},\n\
+{name = 'engineroom', from = 10000, to = 20000, permeability = 850}]\n\
+damage = [{name = 'bow', flooded = ['forehold']}, {name = 'both', flooded = ['engineroom', 'midhold']}]\n\
+floodable = {centres = [30000, 60000], step = 1000, permeability = 800}\n";
+
+// The bytes of a job as the table of jobs has it.
+fn bytes_of(alloc: Global, job: &str) -> Result<Vec<u8>, Fail> {
+    let mut bytes = Vec::new(alloc);
+    let rest = match job.strip_prefix('!') {
+        Some(rest) => rest,
+        None => {
+            bytes.extend_from_slice(BASE.as_bytes())?;
+            job
+        }
+    };
+    bytes.extend_from_slice(rest.as_bytes())?;
+    for byte in &mut bytes {
+        if *byte == b';' {
+            *byte = b'\n';
+        }
+    }
+    Ok(bytes)
+}
+
+fn answer_of(alloc: Global, job: &str) -> Result<Result<Job, JobFault>, Fail> {
+    let bytes = bytes_of(alloc, job)?;
+    if bytes.len() > 65536 {
+        return Err("a long job".into());
+    }
+    Ok(read_job(alloc, &bytes))
+}
+
+fn placed(alloc: Global, word: &str, key: Key, entry: u32) -> Result<String, Fail> {
+    let text = match key.table() {
+        Key::Top => format!(in alloc; "{word} {} {entry}", key.word())?,
+        table => format!(in alloc; "{word} {}.{} {entry}", table.word(), key.word())?,
+    };
+    Ok(text)
+}
+
+// What reading answers, in words.
+fn words_of(alloc: Global, answer: &Result<Job, JobFault>) -> Result<String, Fail> {
+    let text = match answer {
+        Ok(_) => String::from_str(alloc, "accepted")?,
+        Err(JobFault::Text) => String::from_str(alloc, "text")?,
+        Err(JobFault::Version) => String::from_str(alloc, "version")?,
+        Err(JobFault::Memory) => String::from_str(alloc, "memory")?,
+        Err(JobFault::Unknown { key, entry }) => placed(alloc, "unknown", *key, *entry)?,
+        Err(JobFault::Missing { key, entry }) => placed(alloc, "missing", *key, *entry)?,
+        Err(JobFault::Kind { key, entry }) => placed(alloc, "kind", *key, *entry)?,
+        Err(JobFault::Range { key, entry }) => placed(alloc, "range", *key, *entry)?,
+        Err(JobFault::Many { key, entry }) => placed(alloc, "many", *key, *entry)?,
+        Err(JobFault::Name { key, entry }) => placed(alloc, "name", *key, *entry)?,
+        Err(JobFault::Twice { key, entry }) => placed(alloc, "twice", *key, *entry)?,
+        Err(JobFault::NotNamed { entry }) => format!(in alloc; "notnamed {entry}")?,
+        Err(JobFault::Overlap { first, second }) => format!(in alloc; "overlap {first} {second}")?,
+    };
+    Ok(text)
+}
+
+#[test]
+fn each_job_has_its_first_fault(rt: HostRuntime) -> Result<(), Fail> {
+    let mut count: u32 = 0;
+    for line in JOBS.lines() {
+        let (want, job) = line.split_once('|').ok_or("no bar")?;
+        let words = words_of(rt.alloc(), &answer_of(rt.alloc(), job)?)?;
+        assert_eq!(rt; words.as_str(), want, "{job}");
+        count = count.saturating_add(1);
+    }
+    assert_eq!(rt; count, 215);
+    Ok(())
+}
+
+#[test]
+fn the_cargo_ship_is_read_whole(rt: HostRuntime) -> Result<(), Fail> {
+    let job = read_job(rt.alloc(), CARGO.as_bytes()).map_err(|_| "refused")?;
+    assert_eq!(rt;
+        (job.water.density, job.water.length_bp, job.margin),
+        (1025, 100000, 76)
+    );
+    assert_eq!(rt; job.drafts.as_slice(), [2000, 4000, 6000, 8000].as_slice());
+    assert_eq!(rt; job.masses.as_slice(), [6000000, 8380000].as_slice());
+    let mut mass: u64 = 0;
+    let mut free_surface: u64 = 0;
+    let mut along: i64 = 0;
+    let mut height: i64 = 0;
+    for item in job.items.as_slice() {
+        mass = mass.saturating_add(item.mass);
+        free_surface = free_surface.saturating_add(item.free_surface);
+        along = along.saturating_add(item.x.saturating_mul(item.mass as i64));
+        height = height.saturating_add(item.z.saturating_mul(item.mass as i64));
+    }
+    assert_eq!(rt; (mass, free_surface), (8380000, 220000));
+    assert_eq!(rt; (along, height), (415160000000, 49710000000));
+    assert_eq!(rt; job.openings.as_slice().len(), 2);
+    if let [vent, door] = job.openings.as_slice() {
+        assert_eq!(rt;
+            (vent.y, vent.z, door.y, door.z),
+            (6000, 13500, 3000, 14500)
+        );
+    }
+    let midhold = Name::of("midhold").ok_or("no name")?;
+    let slab = job.compartments.get(&midhold).ok_or("no midhold")?;
+    assert_eq!(rt;
+        (slab.aft, slab.fore, slab.permeability),
+        (50000, 66000, 700)
+    );
+    assert_eq!(rt; job.damages.as_slice().len(), 2);
+    if let [_, both] = job.damages.as_slice() {
+        let aft: i64 = both
+            .slabs
+            .as_slice()
+            .iter()
+            .map(|slab| slab.aft)
+            .max()
+            .unwrap_or(0);
+        assert_eq!(rt; (both.slabs.as_slice().len(), aft), (2, 50000));
+    }
+    let plan = job.floodable.ok_or("no plan")?;
+    assert_eq!(rt; plan.centres.as_slice(), [30000, 60000].as_slice());
+    assert_eq!(rt; (plan.step, plan.permeability), (1000, 800));
+    Ok(())
+}
+
+#[test]
+fn a_case_keeps_its_slabs_apart(rt: HostRuntime) -> Result<(), Fail> {
+    let first = Slab::new(0, 10, 850).ok_or("no slab")?;
+    let touching = Slab::new(10, 20, 850).ok_or("no slab")?;
+    let meeting = Slab::new(19, 30, 0).ok_or("no slab")?;
+    assert!(rt; Damage::of(vec![in rt.alloc(); first, touching]?).is_some());
+    assert!(rt; Damage::of(vec![in rt.alloc(); first, meeting]?).is_some());
+    assert!(rt; Damage::of(vec![in rt.alloc(); first, touching, meeting]?).is_none());
+    assert!(rt; Damage::of(Vec::new(rt.alloc())).is_some());
+    Ok(())
+}
