@@ -1,0 +1,3 @@
+pub mod Squares
+pub mod Quotients
+pub mod Order
