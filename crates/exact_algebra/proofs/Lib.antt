@@ -11,5 +11,8 @@ pub mod Whole
 pub mod Division
 pub mod Span
 pub mod Products
+pub mod DualNumbers
+pub mod DividedDifference
+pub mod WetForm
 pub mod Laws
 pub mod Examples
