@@ -173,10 +173,20 @@ module _ (K : OrderedField) where
   twelve-values : (a b c : Corner) → (Difference.full D (deep a) (deep b) (deep c)).1.1 ≡ twelve a b c
   twelve-values a b c = ring R (a.0 ∷ a.1 ∷ a.2 ∷ b.0 ∷ b.1 ∷ b.2 ∷ c.0 ∷ c.1 ∷ c.2 ∷ []) (full2 A B C).1.1 (twelve_of (var 1) (var 4) (var 7) (var 2) (var 5) (var 8)) refl
 
-  -- no corner is below, and one is above
-  pub form_wet : (a b c : Corner) → sign a.0 ≢ below → sign b.0 ≢ below → sign c.0 ≢ below → Difference.SomeOver D (over a.0) (over b.0) (over c.0) → wet_form a b c ≡ twelve a b c
+  some_over : (u v w : Bool) → (u ≡ false → v ≡ false → w ≡ false → ⊥) → Difference.SomeOver D u v w
+  some_over false false false n = n refl refl refl
+  some_over true true true n = tt
+  some_over true true false n = tt
+  some_over true false true n = tt
+  some_over true false false n = tt
+  some_over false true true n = tt
+  some_over false true false n = tt
+  some_over false false true n = tt
+
+  -- no corner is below, and not all are level
+  pub form_wet : (a b c : Corner) → sign a.0 ≢ below → sign b.0 ≢ below → sign c.0 ≢ below → (over a.0 ≡ false → over b.0 ≡ false → over c.0 ≡ false → ⊥) → wet_form a b c ≡ twelve a b c
   unfolding wet_form
-  form_wet a b c x y w s = ap (λ (u : Deep). u.1.1) (Difference.none_below D (triples_vanish (dual (of_field K)) (pairs_vanish (of_field K) (small_vanish K))) (deep a) (deep b) (deep c) x y w s)
+  form_wet a b c x y w n = ap (λ (u : Deep). u.1.1) (Difference.none_below D (triples_vanish (dual (of_field K)) (pairs_vanish (of_field K) (small_vanish K))) (deep a) (deep b) (deep c) x y w (some_over (over a.0) (over b.0) (over c.0) n))
       ∙ twelve-values a b c
 
   pub form_dry : (a b c : Corner) → sign a.0 ≢ above → sign b.0 ≢ above → sign c.0 ≢ above → wet_form a b c ≡ nought

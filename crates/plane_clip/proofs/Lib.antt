@@ -1,0 +1,5 @@
+pub mod CutInduction
+pub mod Shares
+pub mod WetSum
+pub mod TriangleLaws
+pub mod Rising

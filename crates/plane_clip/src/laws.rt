@@ -1,0 +1,18 @@
+// Theorems about the definitions, each the contract of a function with an empty body.
+ghost use Rattle.std.specs.Prelude.{ℕ};
+ghost use Rattle.exact_algebra.proofs.Fraction.{one};
+ghost use Rattle.hull_model.specs.WetMean.{linear_mean, product_mean, coordinate};
+ghost use Rattle.plane_clip.specs.TriangleLaws.{ObeysLaws};
+
+/// The law on triangles, for each mean over the wet part of a triangle: of 1, of a coordinate, of the product of
+/// two, of the depth, and of the depth times a coordinate.
+///
+/// A split at any point of any edge leaves the sum of share times mean as it was, the order of the edges doesn't
+/// matter, and the sum is known by the sides of the corners.
+pub fn wet_means_obey_the_laws()
+    ensures share { ObeysLaws (λ t. one) }
+    ensures corner { (n : ℕ) → ObeysLaws (linear_mean (coordinate n)) }
+    ensures pair { (n m : ℕ) → ObeysLaws (product_mean (coordinate n) (coordinate m)) }
+    ensures depth { ObeysLaws (linear_mean (λ p. p.depth)) }
+    ensures weighted { (n : ℕ) → ObeysLaws (product_mean (coordinate n) (λ p. p.depth)) }
+{}
