@@ -236,8 +236,8 @@ coordinate_weight zero = record { linear = coordinate_linear zero; low = λ x r.
 coordinate_weight (suc zero) = record { linear = coordinate_linear (suc zero); low = λ x r. r.second; high = λ x r. up_from x.0.second x.1.second r.second r.same_second; rises = λ x r. r.same_second }
 coordinate_weight (suc (suc n)) = record { linear = coordinate_linear (suc (suc n)); low = λ x r. r.third; high = λ x r. up_from x.0.third x.1.third r.third r.same_third; rises = λ x r. r.same_third }
 
-rising_weight : (f : Place → Fraction) → IsWeight f → IsRising f
+pub rising_weight : (f : Place → Fraction) → IsWeight f → IsRising f
 rising_weight f w = record { linear = w.linear; low = λ x r _. w.low x r; high = λ x r _. w.high x r; rises = w.rises }
 
-depth_rising : IsRising depth_at
+pub depth_rising : IsRising depth_at
 depth_rising = record { linear = depth_linear; low = λ x r n. n; high = λ x r n. n; rises = λ x r. r.deeper }
