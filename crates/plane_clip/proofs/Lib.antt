@@ -1,7 +1,8 @@
 pub mod CutInduction
-pub mod Shares
+pub mod ShareSplits
 pub mod WetSum
 pub mod TriangleLaws
 pub mod Rising
 pub mod MeanKinds
 pub mod TipValues
+pub mod PartSteps

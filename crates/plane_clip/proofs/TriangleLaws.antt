@@ -19,7 +19,7 @@ use Rattle.exact_algebra.proofs.DividedDifference as Over
 use Rattle.hull_model.specs.TriangleCut.{Triangle, triangle}
 use Rattle.hull_model.specs.WetMean.{Place, places, with_depths, share_of, wet_mean, at_corners, linear_mean, product_mean, coordinate}
 use Rattle.plane_clip.specs.TriangleLaws.{wet_part, between, NoneBelow, NoneAbove, SomeAbove, IsCrossingAt, tip, ObeysLaws}
-use Rattle.plane_clip.proofs.Shares.{share_first, share_middle, share_last, share-whole, share-swapped, share-turned}
+use Rattle.plane_clip.proofs.ShareSplits.{share_first, share_middle, share_last, share-whole, share-swapped, share-turned}
 use Rattle.plane_clip.proofs.WetSum.{IsLinearOn, N12, valued, form_at, twelve_at, form_first, form_middle, form_last, wet_part-form, wet_mean-form}
 
 pub twelve-twelfth : N12 ⊗ inverse N12 ≡ one

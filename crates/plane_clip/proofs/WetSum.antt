@@ -24,7 +24,7 @@ use Rattle.hull_model.specs.WetMean.{Place, places, with_depths, share_of, wet_m
 use Rattle.hull_model.proofs.TriangleCut.{IsLinear, pieces_uncut}
 use Rattle.plane_clip.specs.TriangleLaws.{wet_part, between}
 use Rattle.plane_clip.proofs.CutInduction.{NoneBelow, NoneAbove, one_side, inside, crossing_parameter, cut_induction}
-use Rattle.plane_clip.proofs.Shares.{sum_over-append, sum_over-one, sum_over-none, share_first, share_middle, share_last, share-whole, share-swapped, share-turned}
+use Rattle.plane_clip.proofs.ShareSplits.{sum_over-append, sum_over-one, sum_over-none, share_first, share_middle, share_last, share-whole, share-swapped, share-turned}
 
 pub linear : IsLinear places
 linear t p q = refl

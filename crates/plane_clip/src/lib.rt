@@ -2,5 +2,7 @@
 #![tactic(auto)]
 
 mod laws;
+mod rounding;
+mod shares;
 
 pub use laws::wet_means_obey_the_laws;
