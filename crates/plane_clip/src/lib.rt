@@ -1,6 +1,7 @@
 //! Means over the wet part of a triangle, enclosed.
 #![tactic(auto)]
 
+mod depths;
 mod laws;
 mod rounding;
 mod shares;
