@@ -14,7 +14,8 @@ pub(crate) struct Depths {
 }
 
 impl Depths {
-    fn second(self) -> Depths
+    /// With the second corner in the first's place.
+    pub(crate) fn second(self) -> Depths
         ensures depth { result.depth ≡ self.depth }
         ensures first { result.first ≡ self.third }
         ensures second { result.second ≡ self.first }

@@ -3,6 +3,7 @@
 
 mod depths;
 mod laws;
+mod means;
 mod rounding;
 mod shares;
 
