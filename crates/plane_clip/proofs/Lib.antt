@@ -6,3 +6,4 @@ pub mod Rising
 pub mod MeanKinds
 pub mod TipValues
 pub mod PartSteps
+pub mod RoundedBounds

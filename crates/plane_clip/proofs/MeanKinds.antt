@@ -3,17 +3,18 @@ use Prim.Native.Nat.{ℕ, zero, suc}
 use native.Mathlib.Omega.{arith}
 use mathlib.Core.Path.{◌≡◌, refl, sym, ◌∙◌, ap, ap₂}
 use mathlib.Core.List.{List, [], ◌∷◌}
-use mathlib.Core.Bool.{Bool, true, false}
+use mathlib.Core.Logic.{◌≢◌}
 use lib.IntN.{ℤ, pos}
 use Rattle.exact_algebra.specs.Expression.{var, unit, number, ◌:+◌, ◌:-◌, ◌:*◌, opposite}
 use Rattle.exact_algebra.proofs.Ring.{ring, ring_from, none, given}
-use Rattle.exact_algebra.proofs.Fraction.{Fraction, nought, one, ◌⊕◌, ◌⊗◌, ◌⊖◌, inverse, fractions, fraction_ring, ◌≼◌}
+use Rattle.exact_algebra.proofs.Fraction.{Fraction, nought, one, ◌⊕◌, ◌⊗◌, ◌⊖◌, inverse, sign, fractions, fraction_ring, ◌≼◌}
+use Rattle.exact_algebra.specs.OrderedField.{below}
 use Rattle.exact_algebra.proofs.WetForm as Form
 use Rattle.hull_model.specs.TriangleCut.{Triangle}
 use Rattle.hull_model.specs.WetMean.{Place, linear_mean, product_mean, coordinate, wet_mean}
 use Rattle.plane_clip.proofs.WetSum.{N12, valued, twelve_at, wet_mean-form}
 use Rattle.plane_clip.proofs.TriangleLaws.{by_twelve, constant, depth_at, share-twelfth, linear-twelfth, product-twelfth}
-use Rattle.plane_clip.proofs.Rising.{IsWeight, IsRising, constant_weight, coordinate_weight, rising_weight, depth_rising, mean_rises}
+use Rattle.plane_clip.proofs.Rising.{IsWeight, IsRising, constant_weight, coordinate_weight, rising_weight, depth_rising, mean_rises, mean_nonnegative}
 
 pub record Kind : Type 0 where
   pub mean : Triangle Place → Fraction
@@ -59,6 +60,9 @@ kind_form κ x y z = wet_mean-form κ.mean κ.f κ.g κ.weight.linear κ.rising.
 
 pub kind_rises : (κ : Kind) (x y z x' y' z' : Fraction) → x ≼ x' → y ≼ y' → z ≼ z' → mean_at κ x y z ≼ mean_at κ x' y' z'
 kind_rises κ = mean_rises κ.f κ.g κ.weight κ.rising κ.mean κ.is_twelfth
+
+pub kind_nonnegative : (κ : Kind) (x y z : Fraction) → sign (mean_at κ x y z) ≢ below
+kind_nonnegative κ = mean_nonnegative κ.f κ.g κ.weight κ.rising κ.mean κ.is_twelfth
 
 product-swap : (f g : Place → Fraction) (t : Triangle Place) → product_mean f g t ≡ product_mean g f t
 product-swap f g t = ap (λ x. x ⊗ inverse N12) (ring fraction_ring (f t.a ∷ f t.b ∷ f t.c ∷ g t.a ∷ g t.b ∷ g t.c ∷ [])

@@ -224,6 +224,27 @@ module _ (f g : Place → Fraction) (weight : IsWeight f) (rising : IsRising g) 
       same : (q : Fraction) → q ≼ q
       same q = Order.≼_refl fractions q
 
+  -- and isn't below nought
+  pub mean_nonnegative : (mean : Triangle Place → Fraction) → ((t : Triangle Place) → mean t ⊗ N12 ≡ twelve_at f g t) → (h k l : Fraction) → NonNegative (wet_mean mean h k l)
+  mean_nonnegative mean is_twelfth h k l = Order.nonnegative_factor fractions (positive-whole 12 (omega arith))
+      (Order.nonnegative_same fractions (wet_mean-form mean f g weight.linear rising.linear is_twelfth h k l)
+      (is_nonnegative (w.a, w.a) (w.b, w.b) (w.c, w.c)
+        (record { first = some; second = none_left; third = none_left; same_first = same one; same_second = same nought; same_third = same nought; deeper = same h })
+        (record { first = none_left; second = some; third = none_left; same_first = same nought; same_second = same one; same_third = same nought; deeper = same k })
+        (record { first = none_left; second = none_left; third = some; same_first = same nought; same_second = same nought; same_third = same one; deeper = same l })))
+    where
+      w : Triangle Place
+      w = with_depths h k l
+
+      some : NonNegative one
+      some = Order.nonnegative-one fractions
+
+      none_left : NonNegative nought
+      none_left = Order.nonnegative-nought fractions
+
+      same : (q : Fraction) → q ≼ q
+      same q = Order.≼_refl fractions q
+
 -- ---- the functions of the five kinds of mean
 pub constant_weight : IsWeight constant
 constant_weight = record { linear = constant_linear; low = λ x r. Order.nonnegative-one fractions; high = λ x r. Order.nonnegative-one fractions; rises = λ x r. Order.≼_refl fractions one }
