@@ -7,3 +7,5 @@ pub mod MeanKinds
 pub mod TipValues
 pub mod PartSteps
 pub mod RoundedBounds
+pub mod Crossings
+pub mod RoundedShares
