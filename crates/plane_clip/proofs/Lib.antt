@@ -9,3 +9,4 @@ pub mod PartSteps
 pub mod RoundedBounds
 pub mod Crossings
 pub mod RoundedShares
+pub mod RoundedDepths

@@ -21,7 +21,7 @@ use Rattle.exact_algebra.proofs.WetForm as Form
 use Rattle.plane_clip.specs.declared.shares.Shares.{Shares}
 use Rattle.plane_clip.specs.Rounded.{is_over, not, scale, quotient, bound, rest, part, part_by, tip_shares, tip_at, nothing, tip_ends, rest_ends, shares_by, first_shares, second_shares, third_shares, shares_in_turn, share_ends}
 use Rattle.plane_clip.proofs.MeanKinds.{Kind, share_kind, corner_kind, pair_kind, mean_at, kind_nonnegative, kind_turn, pair_swap, share_turn, corner_turn0, corner_turn1, corner_turn2, pair_turn00, pair_turn01, pair_turn02, pair_turn11, pair_turn12, pair_turn22}
-use Rattle.plane_clip.proofs.TipValues.{HasValues, when_dry, when_wet, when_one, when_two, share_values, corner0_values, corner1_values, corner2_values, pair00_values, pair01_values, pair02_values, pair11_values, pair12_values, pair22_values}
+use Rattle.plane_clip.proofs.TipValues.{dry_value, wet_value, when_one, when_two, share_whole, corner0_whole, corner1_whole, corner2_whole, pair00_whole, pair01_whole, pair02_whole, pair11_whole, pair12_whole, pair22_whole, share_values, corner0_values, corner1_values, corner2_values, pair00_values, pair01_values, pair02_values, pair11_values, pair12_values, pair22_values}
 use Rattle.plane_clip.proofs.RoundedBounds.{NonNegative, N, P40, positive-P40, N-add, N-mul, N_le, same, Bound, bound-mul, bound-add, bound-twice, bound-one, bound-nought, IsPartOf, bound-part, bound-rest}
 use Rattle.plane_clip.proofs.Crossings.{over-whole, Crossing, crossing_down, crossing_up}
 
@@ -173,30 +173,30 @@ module _ (up : Bool) (X Y Z p : Fraction) (x y z : ℤ) (positive : sign p ≡ a
 
   dry_shares : is_over x ≡ false → is_over y ≡ false → is_over z ≡ false → AreRoundedShares up nothing X Y Z
   dry_shares e f g = record {
-    share = dry_end up 1 (mean_at share_kind X Y Z) (omega arith) (when_dry share_kind 1 X Y Z one one one _ (share_values X Y Z one one) (over-whole X p x positive at_x ∙ e) (over-whole Y p y positive at_y ∙ f) (over-whole Z p z positive at_z ∙ g));
-    c0 = dry_end up 3 (mean_at (corner_kind 0) X Y Z) (omega arith) (when_dry (corner_kind 0) 3 X Y Z one one one _ (corner0_values X Y Z one one) (over-whole X p x positive at_x ∙ e) (over-whole Y p y positive at_y ∙ f) (over-whole Z p z positive at_z ∙ g));
-    c1 = dry_end up 3 (mean_at (corner_kind 1) X Y Z) (omega arith) (when_dry (corner_kind 1) 3 X Y Z one one one _ (corner1_values X Y Z one one) (over-whole X p x positive at_x ∙ e) (over-whole Y p y positive at_y ∙ f) (over-whole Z p z positive at_z ∙ g));
-    c2 = dry_end up 3 (mean_at (corner_kind 2) X Y Z) (omega arith) (when_dry (corner_kind 2) 3 X Y Z one one one _ (corner2_values X Y Z one one) (over-whole X p x positive at_x ∙ e) (over-whole Y p y positive at_y ∙ f) (over-whole Z p z positive at_z ∙ g));
-    p00 = dry_end up 6 (mean_at (pair_kind 0 0) X Y Z) (omega arith) (when_dry (pair_kind 0 0) 6 X Y Z one one one _ (pair00_values X Y Z one one) (over-whole X p x positive at_x ∙ e) (over-whole Y p y positive at_y ∙ f) (over-whole Z p z positive at_z ∙ g));
-    p01 = dry_end up 12 (mean_at (pair_kind 0 1) X Y Z) (omega arith) (when_dry (pair_kind 0 1) 12 X Y Z one one one _ (pair01_values X Y Z one one) (over-whole X p x positive at_x ∙ e) (over-whole Y p y positive at_y ∙ f) (over-whole Z p z positive at_z ∙ g));
-    p02 = dry_end up 12 (mean_at (pair_kind 0 2) X Y Z) (omega arith) (when_dry (pair_kind 0 2) 12 X Y Z one one one _ (pair02_values X Y Z one one) (over-whole X p x positive at_x ∙ e) (over-whole Y p y positive at_y ∙ f) (over-whole Z p z positive at_z ∙ g));
-    p11 = dry_end up 6 (mean_at (pair_kind 1 1) X Y Z) (omega arith) (when_dry (pair_kind 1 1) 6 X Y Z one one one _ (pair11_values X Y Z one one) (over-whole X p x positive at_x ∙ e) (over-whole Y p y positive at_y ∙ f) (over-whole Z p z positive at_z ∙ g));
-    p12 = dry_end up 12 (mean_at (pair_kind 1 2) X Y Z) (omega arith) (when_dry (pair_kind 1 2) 12 X Y Z one one one _ (pair12_values X Y Z one one) (over-whole X p x positive at_x ∙ e) (over-whole Y p y positive at_y ∙ f) (over-whole Z p z positive at_z ∙ g));
-    p22 = dry_end up 6 (mean_at (pair_kind 2 2) X Y Z) (omega arith) (when_dry (pair_kind 2 2) 6 X Y Z one one one _ (pair22_values X Y Z one one) (over-whole X p x positive at_x ∙ e) (over-whole Y p y positive at_y ∙ f) (over-whole Z p z positive at_z ∙ g));
+    share = dry_end up 1 (mean_at share_kind X Y Z) (omega arith) (dry_value share_kind 1 X Y Z one (share_whole X Y Z) (over-whole X p x positive at_x ∙ e) (over-whole Y p y positive at_y ∙ f) (over-whole Z p z positive at_z ∙ g));
+    c0 = dry_end up 3 (mean_at (corner_kind 0) X Y Z) (omega arith) (dry_value (corner_kind 0) 3 X Y Z one (corner0_whole X Y Z) (over-whole X p x positive at_x ∙ e) (over-whole Y p y positive at_y ∙ f) (over-whole Z p z positive at_z ∙ g));
+    c1 = dry_end up 3 (mean_at (corner_kind 1) X Y Z) (omega arith) (dry_value (corner_kind 1) 3 X Y Z one (corner1_whole X Y Z) (over-whole X p x positive at_x ∙ e) (over-whole Y p y positive at_y ∙ f) (over-whole Z p z positive at_z ∙ g));
+    c2 = dry_end up 3 (mean_at (corner_kind 2) X Y Z) (omega arith) (dry_value (corner_kind 2) 3 X Y Z one (corner2_whole X Y Z) (over-whole X p x positive at_x ∙ e) (over-whole Y p y positive at_y ∙ f) (over-whole Z p z positive at_z ∙ g));
+    p00 = dry_end up 6 (mean_at (pair_kind 0 0) X Y Z) (omega arith) (dry_value (pair_kind 0 0) 6 X Y Z one (pair00_whole X Y Z) (over-whole X p x positive at_x ∙ e) (over-whole Y p y positive at_y ∙ f) (over-whole Z p z positive at_z ∙ g));
+    p01 = dry_end up 12 (mean_at (pair_kind 0 1) X Y Z) (omega arith) (dry_value (pair_kind 0 1) 12 X Y Z one (pair01_whole X Y Z) (over-whole X p x positive at_x ∙ e) (over-whole Y p y positive at_y ∙ f) (over-whole Z p z positive at_z ∙ g));
+    p02 = dry_end up 12 (mean_at (pair_kind 0 2) X Y Z) (omega arith) (dry_value (pair_kind 0 2) 12 X Y Z one (pair02_whole X Y Z) (over-whole X p x positive at_x ∙ e) (over-whole Y p y positive at_y ∙ f) (over-whole Z p z positive at_z ∙ g));
+    p11 = dry_end up 6 (mean_at (pair_kind 1 1) X Y Z) (omega arith) (dry_value (pair_kind 1 1) 6 X Y Z one (pair11_whole X Y Z) (over-whole X p x positive at_x ∙ e) (over-whole Y p y positive at_y ∙ f) (over-whole Z p z positive at_z ∙ g));
+    p12 = dry_end up 12 (mean_at (pair_kind 1 2) X Y Z) (omega arith) (dry_value (pair_kind 1 2) 12 X Y Z one (pair12_whole X Y Z) (over-whole X p x positive at_x ∙ e) (over-whole Y p y positive at_y ∙ f) (over-whole Z p z positive at_z ∙ g));
+    p22 = dry_end up 6 (mean_at (pair_kind 2 2) X Y Z) (omega arith) (dry_value (pair_kind 2 2) 6 X Y Z one (pair22_whole X Y Z) (over-whole X p x positive at_x ∙ e) (over-whole Y p y positive at_y ∙ f) (over-whole Z p z positive at_z ∙ g));
   }
 
   wet_shares : is_over x ≡ true → is_over y ≡ true → is_over z ≡ true → AreRoundedShares up (rest_ends up nothing) X Y Z
   wet_shares e f g = record {
-    share = whole_end share_kind up 1 X Y Z (omega arith) (when_wet share_kind 1 X Y Z one one one _ (share_values X Y Z one one) (over-whole X p x positive at_x ∙ e) (over-whole Y p y positive at_y ∙ f) (over-whole Z p z positive at_z ∙ g));
-    c0 = whole_end (corner_kind 0) up 3 X Y Z (omega arith) (when_wet (corner_kind 0) 3 X Y Z one one one _ (corner0_values X Y Z one one) (over-whole X p x positive at_x ∙ e) (over-whole Y p y positive at_y ∙ f) (over-whole Z p z positive at_z ∙ g));
-    c1 = whole_end (corner_kind 1) up 3 X Y Z (omega arith) (when_wet (corner_kind 1) 3 X Y Z one one one _ (corner1_values X Y Z one one) (over-whole X p x positive at_x ∙ e) (over-whole Y p y positive at_y ∙ f) (over-whole Z p z positive at_z ∙ g));
-    c2 = whole_end (corner_kind 2) up 3 X Y Z (omega arith) (when_wet (corner_kind 2) 3 X Y Z one one one _ (corner2_values X Y Z one one) (over-whole X p x positive at_x ∙ e) (over-whole Y p y positive at_y ∙ f) (over-whole Z p z positive at_z ∙ g));
-    p00 = whole_end (pair_kind 0 0) up 6 X Y Z (omega arith) (when_wet (pair_kind 0 0) 6 X Y Z one one one _ (pair00_values X Y Z one one) (over-whole X p x positive at_x ∙ e) (over-whole Y p y positive at_y ∙ f) (over-whole Z p z positive at_z ∙ g));
-    p01 = whole_end (pair_kind 0 1) up 12 X Y Z (omega arith) (when_wet (pair_kind 0 1) 12 X Y Z one one one _ (pair01_values X Y Z one one) (over-whole X p x positive at_x ∙ e) (over-whole Y p y positive at_y ∙ f) (over-whole Z p z positive at_z ∙ g));
-    p02 = whole_end (pair_kind 0 2) up 12 X Y Z (omega arith) (when_wet (pair_kind 0 2) 12 X Y Z one one one _ (pair02_values X Y Z one one) (over-whole X p x positive at_x ∙ e) (over-whole Y p y positive at_y ∙ f) (over-whole Z p z positive at_z ∙ g));
-    p11 = whole_end (pair_kind 1 1) up 6 X Y Z (omega arith) (when_wet (pair_kind 1 1) 6 X Y Z one one one _ (pair11_values X Y Z one one) (over-whole X p x positive at_x ∙ e) (over-whole Y p y positive at_y ∙ f) (over-whole Z p z positive at_z ∙ g));
-    p12 = whole_end (pair_kind 1 2) up 12 X Y Z (omega arith) (when_wet (pair_kind 1 2) 12 X Y Z one one one _ (pair12_values X Y Z one one) (over-whole X p x positive at_x ∙ e) (over-whole Y p y positive at_y ∙ f) (over-whole Z p z positive at_z ∙ g));
-    p22 = whole_end (pair_kind 2 2) up 6 X Y Z (omega arith) (when_wet (pair_kind 2 2) 6 X Y Z one one one _ (pair22_values X Y Z one one) (over-whole X p x positive at_x ∙ e) (over-whole Y p y positive at_y ∙ f) (over-whole Z p z positive at_z ∙ g));
+    share = whole_end share_kind up 1 X Y Z (omega arith) (wet_value share_kind 1 X Y Z one (share_whole X Y Z) (over-whole X p x positive at_x ∙ e) (over-whole Y p y positive at_y ∙ f) (over-whole Z p z positive at_z ∙ g));
+    c0 = whole_end (corner_kind 0) up 3 X Y Z (omega arith) (wet_value (corner_kind 0) 3 X Y Z one (corner0_whole X Y Z) (over-whole X p x positive at_x ∙ e) (over-whole Y p y positive at_y ∙ f) (over-whole Z p z positive at_z ∙ g));
+    c1 = whole_end (corner_kind 1) up 3 X Y Z (omega arith) (wet_value (corner_kind 1) 3 X Y Z one (corner1_whole X Y Z) (over-whole X p x positive at_x ∙ e) (over-whole Y p y positive at_y ∙ f) (over-whole Z p z positive at_z ∙ g));
+    c2 = whole_end (corner_kind 2) up 3 X Y Z (omega arith) (wet_value (corner_kind 2) 3 X Y Z one (corner2_whole X Y Z) (over-whole X p x positive at_x ∙ e) (over-whole Y p y positive at_y ∙ f) (over-whole Z p z positive at_z ∙ g));
+    p00 = whole_end (pair_kind 0 0) up 6 X Y Z (omega arith) (wet_value (pair_kind 0 0) 6 X Y Z one (pair00_whole X Y Z) (over-whole X p x positive at_x ∙ e) (over-whole Y p y positive at_y ∙ f) (over-whole Z p z positive at_z ∙ g));
+    p01 = whole_end (pair_kind 0 1) up 12 X Y Z (omega arith) (wet_value (pair_kind 0 1) 12 X Y Z one (pair01_whole X Y Z) (over-whole X p x positive at_x ∙ e) (over-whole Y p y positive at_y ∙ f) (over-whole Z p z positive at_z ∙ g));
+    p02 = whole_end (pair_kind 0 2) up 12 X Y Z (omega arith) (wet_value (pair_kind 0 2) 12 X Y Z one (pair02_whole X Y Z) (over-whole X p x positive at_x ∙ e) (over-whole Y p y positive at_y ∙ f) (over-whole Z p z positive at_z ∙ g));
+    p11 = whole_end (pair_kind 1 1) up 6 X Y Z (omega arith) (wet_value (pair_kind 1 1) 6 X Y Z one (pair11_whole X Y Z) (over-whole X p x positive at_x ∙ e) (over-whole Y p y positive at_y ∙ f) (over-whole Z p z positive at_z ∙ g));
+    p12 = whole_end (pair_kind 1 2) up 12 X Y Z (omega arith) (wet_value (pair_kind 1 2) 12 X Y Z one (pair12_whole X Y Z) (over-whole X p x positive at_x ∙ e) (over-whole Y p y positive at_y ∙ f) (over-whole Z p z positive at_z ∙ g));
+    p22 = whole_end (pair_kind 2 2) up 6 X Y Z (omega arith) (wet_value (pair_kind 2 2) 6 X Y Z one (pair22_whole X Y Z) (over-whole X p x positive at_x ∙ e) (over-whole Y p y positive at_y ∙ f) (over-whole Z p z positive at_z ∙ g));
   }
 
   one_shares_by : (n : Shares) (t s : Fraction) → is_over x ≡ true → is_over y ≡ false → is_over z ≡ false → IsPart X Y t → IsPart X Z s → TipBounds up n t s → AreRoundedShares up (tip_ends up n) X Y Z

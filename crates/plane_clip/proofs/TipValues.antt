@@ -31,12 +31,16 @@ whole_form κ x y z = Form.twelve fractions (value κ (first_place x)) (value κ
 abbrev tip_form : Kind → Fraction → Fraction → Fraction → Fraction → Fraction → Fraction
 tip_form κ t s x y z = Form.tip fractions t s (value κ (first_place x)) (value κ (second_place y)) (value κ (third_place z))
 
--- k times the mean is w over the whole triangle, and e over the tip, where 12 = c k
-pub record HasValues (κ : Kind) (k : ℕ) (x y z t s w e : Fraction) : Type 0 where
+-- k times the mean over the whole triangle is w, where 12 = c k
+pub record HasWhole (κ : Kind) (k : ℕ) (x y z w : Fraction) : Type 0 where
   pub c : ℕ
   pub factors : N12 ≡ whole (pos c) ⊗ whole (pos k)
   pub whole_triangle : whole_form κ x y z ≡ whole (pos c) ⊗ w
-  pub at_tip : tip_form κ t s x y z ≡ whole (pos c) ⊗ e
+
+-- and over the tip e
+pub record HasValues (κ : Kind) (k : ℕ) (x y z t s w e : Fraction) : Type 0 where
+  pub over_whole : HasWhole κ k x y z w
+  pub at_tip : tip_form κ t s x y z ≡ whole (pos over_whole.c) ⊗ e
 
 by_factors : (κ : Kind) (k : ℕ) (x y z m : Fraction) (c : ℕ) → N12 ≡ whole (pos c) ⊗ whole (pos k)
     → Form.wet_form fractions (value κ (first_place x)) (value κ (second_place y)) (value κ (third_place z)) ≡ whole (pos c) ⊗ m → mean_at κ x y z ⊗ whole (pos k) ≡ m
@@ -50,20 +54,21 @@ by_factors κ k x y z m c e f = by_twelve (mean_at κ x y z ⊗ whole (pos k)) m
 abbrev over : Fraction → Bool
 over x = Form.over fractions x
 
-module _ (κ : Kind) (k : ℕ) (x y z t s w e : Fraction) (v : HasValues κ k x y z t s w e) where
-  pub when_dry : over x ≡ false → over y ≡ false → over z ≡ false → mean_at κ x y z ⊗ whole (pos k) ≡ nought
-  when_dry f g h = by_factors κ k x y z nought v.c v.factors (Form.form_none_over fractions (value κ (first_place x)) (value κ (second_place y)) (value κ (third_place z)) f g h
+module _ (κ : Kind) (k : ℕ) (x y z w : Fraction) (v : HasWhole κ k x y z w) where
+  pub dry_value : over x ≡ false → over y ≡ false → over z ≡ false → mean_at κ x y z ⊗ whole (pos k) ≡ nought
+  dry_value f g h = by_factors κ k x y z nought v.c v.factors (Form.form_none_over fractions (value κ (first_place x)) (value κ (second_place y)) (value κ (third_place z)) f g h
       ∙ ring fraction_ring (whole (pos v.c) ∷ []) (number 0) (var 0 :* number 0) refl)
 
-  pub when_wet : over x ≡ true → over y ≡ true → over z ≡ true → mean_at κ x y z ⊗ whole (pos k) ≡ w
-  when_wet f g h = by_factors κ k x y z w v.c v.factors (Form.form_all_over fractions (value κ (first_place x)) (value κ (second_place y)) (value κ (third_place z)) f g h ∙ v.whole_triangle)
+  pub wet_value : over x ≡ true → over y ≡ true → over z ≡ true → mean_at κ x y z ⊗ whole (pos k) ≡ w
+  wet_value f g h = by_factors κ k x y z w v.c v.factors (Form.form_all_over fractions (value κ (first_place x)) (value κ (second_place y)) (value κ (third_place z)) f g h ∙ v.whole_triangle)
 
+module _ (κ : Kind) (k : ℕ) (x y z t s w e : Fraction) (v : HasValues κ k x y z t s w e) where
   pub when_one : over x ≡ true → over y ≡ false → over z ≡ false → Form.IsPart fractions x y t → Form.IsPart fractions x z s → mean_at κ x y z ⊗ whole (pos k) ≡ e
-  when_one f g h i j = by_factors κ k x y z e v.c v.factors (Form.form_one_over fractions t s (value κ (first_place x)) (value κ (second_place y)) (value κ (third_place z)) f g h i j ∙ v.at_tip)
+  when_one f g h i j = by_factors κ k x y z e v.over_whole.c v.over_whole.factors (Form.form_one_over fractions t s (value κ (first_place x)) (value κ (second_place y)) (value κ (third_place z)) f g h i j ∙ v.at_tip)
 
   pub when_two : over x ≡ false → over y ≡ true → over z ≡ true → Form.IsPart fractions x y t → Form.IsPart fractions x z s → mean_at κ x y z ⊗ whole (pos k) ≡ w ⊖ e
-  when_two f g h i j = by_factors κ k x y z (w ⊖ e) v.c v.factors (Form.form_two_over fractions t s (value κ (first_place x)) (value κ (second_place y)) (value κ (third_place z)) f g h i j
-      ∙ ap₂ ◌⊖◌ v.whole_triangle v.at_tip ∙ ring fraction_ring (whole (pos v.c) ∷ w ∷ e ∷ []) (var 0 :* var 1 :- var 0 :* var 2) (var 0 :* (var 1 :- var 2)) refl)
+  when_two f g h i j = by_factors κ k x y z (w ⊖ e) v.over_whole.c v.over_whole.factors (Form.form_two_over fractions t s (value κ (first_place x)) (value κ (second_place y)) (value κ (third_place z)) f g h i j
+      ∙ ap₂ ◌⊖◌ v.over_whole.whole_triangle v.at_tip ∙ ring fraction_ring (whole (pos v.over_whole.c) ∷ w ∷ e ∷ []) (var 0 :* var 1 :- var 0 :* var 2) (var 0 :* (var 1 :- var 2)) refl)
 
 -- ---- the expressions: t, s, and the depths of the corners, with the factor c last
 abbrev twelve_of : (p q : Expression × Expression × Expression) → Expression
@@ -97,6 +102,122 @@ U = unit :- var 0
 abbrev W : Expression
 W = unit :- var 1
 
+module _ (x y z : Fraction) where
+  whole_values : (c : ℕ) → List Fraction
+  whole_values c = nought ∷ nought ∷ x ∷ y ∷ z ∷ whole (pos c) ∷ []
+
+  pub share_whole : HasWhole share_kind 1 x y z one
+  unfolding whole_values
+  share_whole = record {
+    c = 12;
+    factors = whole-mul (pos 12) (pos 1);
+    whole_triangle = ring_from fraction_ring (whole_values 12) ((opposite (unit), var 5, number 12) ∷ []) (given (N-number 12) none) (twelve_of ones ones) (var 5 :* unit) refl;
+  }
+
+  pub corner0_whole : HasWhole (corner_kind 0) 3 x y z one
+  unfolding whole_values
+  corner0_whole = record {
+    c = 4;
+    factors = whole-mul (pos 4) (pos 3);
+    whole_triangle = ring_from fraction_ring (whole_values 4) ((opposite (unit), var 5, number 4) ∷ []) (given (N-number 4) none) (twelve_of ones first_corner) (var 5 :* unit) refl;
+  }
+
+  pub corner1_whole : HasWhole (corner_kind 1) 3 x y z one
+  unfolding whole_values
+  corner1_whole = record {
+    c = 4;
+    factors = whole-mul (pos 4) (pos 3);
+    whole_triangle = ring_from fraction_ring (whole_values 4) ((opposite (unit), var 5, number 4) ∷ []) (given (N-number 4) none) (twelve_of ones second_corner) (var 5 :* unit) refl;
+  }
+
+  pub corner2_whole : HasWhole (corner_kind 2) 3 x y z one
+  unfolding whole_values
+  corner2_whole = record {
+    c = 4;
+    factors = whole-mul (pos 4) (pos 3);
+    whole_triangle = ring_from fraction_ring (whole_values 4) ((opposite (unit), var 5, number 4) ∷ []) (given (N-number 4) none) (twelve_of ones third_corner) (var 5 :* unit) refl;
+  }
+
+  pub pair00_whole : HasWhole (pair_kind 0 0) 6 x y z one
+  unfolding whole_values
+  pair00_whole = record {
+    c = 2;
+    factors = whole-mul (pos 2) (pos 6);
+    whole_triangle = ring_from fraction_ring (whole_values 2) ((opposite (unit), var 5, number 2) ∷ []) (given (N-number 2) none) (twelve_of first_corner first_corner) (var 5 :* unit) refl;
+  }
+
+  pub pair01_whole : HasWhole (pair_kind 0 1) 12 x y z one
+  unfolding whole_values
+  pair01_whole = record {
+    c = 1;
+    factors = whole-mul (pos 1) (pos 12);
+    whole_triangle = ring_from fraction_ring (whole_values 1) ((opposite (unit), var 5, number 1) ∷ []) (given (N-number 1) none) (twelve_of first_corner second_corner) (var 5 :* unit) refl;
+  }
+
+  pub pair02_whole : HasWhole (pair_kind 0 2) 12 x y z one
+  unfolding whole_values
+  pair02_whole = record {
+    c = 1;
+    factors = whole-mul (pos 1) (pos 12);
+    whole_triangle = ring_from fraction_ring (whole_values 1) ((opposite (unit), var 5, number 1) ∷ []) (given (N-number 1) none) (twelve_of first_corner third_corner) (var 5 :* unit) refl;
+  }
+
+  pub pair11_whole : HasWhole (pair_kind 1 1) 6 x y z one
+  unfolding whole_values
+  pair11_whole = record {
+    c = 2;
+    factors = whole-mul (pos 2) (pos 6);
+    whole_triangle = ring_from fraction_ring (whole_values 2) ((opposite (unit), var 5, number 2) ∷ []) (given (N-number 2) none) (twelve_of second_corner second_corner) (var 5 :* unit) refl;
+  }
+
+  pub pair12_whole : HasWhole (pair_kind 1 2) 12 x y z one
+  unfolding whole_values
+  pair12_whole = record {
+    c = 1;
+    factors = whole-mul (pos 1) (pos 12);
+    whole_triangle = ring_from fraction_ring (whole_values 1) ((opposite (unit), var 5, number 1) ∷ []) (given (N-number 1) none) (twelve_of second_corner third_corner) (var 5 :* unit) refl;
+  }
+
+  pub pair22_whole : HasWhole (pair_kind 2 2) 6 x y z one
+  unfolding whole_values
+  pair22_whole = record {
+    c = 2;
+    factors = whole-mul (pos 2) (pos 6);
+    whole_triangle = ring_from fraction_ring (whole_values 2) ((opposite (unit), var 5, number 2) ∷ []) (given (N-number 2) none) (twelve_of third_corner third_corner) (var 5 :* unit) refl;
+  }
+
+  pub depth_whole : HasWhole depth_kind 3 x y z (x ⊕ y ⊕ z)
+  unfolding whole_values
+  depth_whole = record {
+    c = 4;
+    factors = whole-mul (pos 4) (pos 3);
+    whole_triangle = ring_from fraction_ring (whole_values 4) ((opposite ((var 2 :+ var 3 :+ var 4)), var 5, number 4) ∷ []) (given (N-number 4) none) (twelve_of ones depths) (var 5 :* (var 2 :+ var 3 :+ var 4)) refl;
+  }
+
+  pub weighted0_whole : HasWhole (weighted_kind 0) 12 x y z ((x ⊕ y ⊕ z) ⊕ x)
+  unfolding whole_values
+  weighted0_whole = record {
+    c = 1;
+    factors = whole-mul (pos 1) (pos 12);
+    whole_triangle = ring_from fraction_ring (whole_values 1) ((opposite (((var 2 :+ var 3 :+ var 4) :+ var 2)), var 5, number 1) ∷ []) (given (N-number 1) none) (twelve_of first_corner depths) (var 5 :* ((var 2 :+ var 3 :+ var 4) :+ var 2)) refl;
+  }
+
+  pub weighted1_whole : HasWhole (weighted_kind 1) 12 x y z ((x ⊕ y ⊕ z) ⊕ y)
+  unfolding whole_values
+  weighted1_whole = record {
+    c = 1;
+    factors = whole-mul (pos 1) (pos 12);
+    whole_triangle = ring_from fraction_ring (whole_values 1) ((opposite (((var 2 :+ var 3 :+ var 4) :+ var 3)), var 5, number 1) ∷ []) (given (N-number 1) none) (twelve_of second_corner depths) (var 5 :* ((var 2 :+ var 3 :+ var 4) :+ var 3)) refl;
+  }
+
+  pub weighted2_whole : HasWhole (weighted_kind 2) 12 x y z ((x ⊕ y ⊕ z) ⊕ z)
+  unfolding whole_values
+  weighted2_whole = record {
+    c = 1;
+    factors = whole-mul (pos 1) (pos 12);
+    whole_triangle = ring_from fraction_ring (whole_values 1) ((opposite (((var 2 :+ var 3 :+ var 4) :+ var 4)), var 5, number 1) ∷ []) (given (N-number 1) none) (twelve_of third_corner depths) (var 5 :* ((var 2 :+ var 3 :+ var 4) :+ var 4)) refl;
+  }
+
 module _ (x y z t s : Fraction) where
   values : (c : ℕ) → List Fraction
   values c = t ∷ s ∷ x ∷ y ∷ z ∷ whole (pos c) ∷ []
@@ -108,133 +229,105 @@ module _ (x y z t s : Fraction) where
   v = one ⊖ s
 
   pub share_values : HasValues share_kind 1 x y z t s one ((t ⊗ s))
-  unfolding values
+  unfolding values share_whole
   share_values = record {
-    c = 12;
-    factors = whole-mul (pos 12) (pos 1);
-    whole_triangle = ring_from fraction_ring (values 12) ((opposite (unit), var 5, number 12) ∷ []) (given (N-number 12) none) (twelve_of ones ones) (var 5 :* unit) refl;
+    over_whole = share_whole x y z;
     at_tip = ring_from fraction_ring (values 12) ((opposite ((var 0 :* var 1)), var 5, number 12) ∷ []) (given (N-number 12) none) (tip_of ones ones) (var 5 :* ((var 0 :* var 1))) refl;
   }
 
   pub corner0_values : HasValues (corner_kind 0) 3 x y z t s one ((t ⊗ s) ⊗ (one ⊕ u ⊕ v))
-  unfolding values
+  unfolding values corner0_whole
   corner0_values = record {
-    c = 4;
-    factors = whole-mul (pos 4) (pos 3);
-    whole_triangle = ring_from fraction_ring (values 4) ((opposite (unit), var 5, number 4) ∷ []) (given (N-number 4) none) (twelve_of ones first_corner) (var 5 :* unit) refl;
+    over_whole = corner0_whole x y z;
     at_tip = ring_from fraction_ring (values 4) ((opposite ((var 0 :* var 1) :* (unit :+ U :+ W)), var 5, number 4) ∷ []) (given (N-number 4) none) (tip_of ones first_corner) (var 5 :* ((var 0 :* var 1) :* (unit :+ U :+ W))) refl;
   }
 
   pub corner1_values : HasValues (corner_kind 1) 3 x y z t s one ((t ⊗ s) ⊗ t)
-  unfolding values
+  unfolding values corner1_whole
   corner1_values = record {
-    c = 4;
-    factors = whole-mul (pos 4) (pos 3);
-    whole_triangle = ring_from fraction_ring (values 4) ((opposite (unit), var 5, number 4) ∷ []) (given (N-number 4) none) (twelve_of ones second_corner) (var 5 :* unit) refl;
+    over_whole = corner1_whole x y z;
     at_tip = ring_from fraction_ring (values 4) ((opposite ((var 0 :* var 1) :* var 0), var 5, number 4) ∷ []) (given (N-number 4) none) (tip_of ones second_corner) (var 5 :* ((var 0 :* var 1) :* var 0)) refl;
   }
 
   pub corner2_values : HasValues (corner_kind 2) 3 x y z t s one ((t ⊗ s) ⊗ s)
-  unfolding values
+  unfolding values corner2_whole
   corner2_values = record {
-    c = 4;
-    factors = whole-mul (pos 4) (pos 3);
-    whole_triangle = ring_from fraction_ring (values 4) ((opposite (unit), var 5, number 4) ∷ []) (given (N-number 4) none) (twelve_of ones third_corner) (var 5 :* unit) refl;
+    over_whole = corner2_whole x y z;
     at_tip = ring_from fraction_ring (values 4) ((opposite ((var 0 :* var 1) :* var 1), var 5, number 4) ∷ []) (given (N-number 4) none) (tip_of ones third_corner) (var 5 :* ((var 0 :* var 1) :* var 1)) refl;
   }
 
   pub pair00_values : HasValues (pair_kind 0 0) 6 x y z t s one ((t ⊗ s) ⊗ (one ⊕ u ⊕ v ⊕ u ⊗ u ⊕ v ⊗ v ⊕ u ⊗ v))
-  unfolding values
+  unfolding values pair00_whole
   pair00_values = record {
-    c = 2;
-    factors = whole-mul (pos 2) (pos 6);
-    whole_triangle = ring_from fraction_ring (values 2) ((opposite (unit), var 5, number 2) ∷ []) (given (N-number 2) none) (twelve_of first_corner first_corner) (var 5 :* unit) refl;
+    over_whole = pair00_whole x y z;
     at_tip = ring_from fraction_ring (values 2) ((opposite ((var 0 :* var 1) :* (unit :+ U :+ W :+ U :* U :+ W :* W :+ U :* W)), var 5, number 2) ∷ []) (given (N-number 2) none) (tip_of first_corner first_corner) (var 5 :* ((var 0 :* var 1) :* (unit :+ U :+ W :+ U :* U :+ W :* W :+ U :* W))) refl;
   }
 
   pub pair01_values : HasValues (pair_kind 0 1) 12 x y z t s one (((t ⊗ s) ⊗ t) ⊗ (one ⊕ (u ⊕ u) ⊕ v))
-  unfolding values
+  unfolding values pair01_whole
   pair01_values = record {
-    c = 1;
-    factors = whole-mul (pos 1) (pos 12);
-    whole_triangle = ring_from fraction_ring (values 1) ((opposite (unit), var 5, number 1) ∷ []) (given (N-number 1) none) (twelve_of first_corner second_corner) (var 5 :* unit) refl;
+    over_whole = pair01_whole x y z;
     at_tip = ring_from fraction_ring (values 1) ((opposite (((var 0 :* var 1) :* var 0) :* (unit :+ (U :+ U) :+ W)), var 5, number 1) ∷ []) (given (N-number 1) none) (tip_of first_corner second_corner) (var 5 :* (((var 0 :* var 1) :* var 0) :* (unit :+ (U :+ U) :+ W))) refl;
   }
 
   pub pair02_values : HasValues (pair_kind 0 2) 12 x y z t s one (((t ⊗ s) ⊗ s) ⊗ (one ⊕ u ⊕ (v ⊕ v)))
-  unfolding values
+  unfolding values pair02_whole
   pair02_values = record {
-    c = 1;
-    factors = whole-mul (pos 1) (pos 12);
-    whole_triangle = ring_from fraction_ring (values 1) ((opposite (unit), var 5, number 1) ∷ []) (given (N-number 1) none) (twelve_of first_corner third_corner) (var 5 :* unit) refl;
+    over_whole = pair02_whole x y z;
     at_tip = ring_from fraction_ring (values 1) ((opposite (((var 0 :* var 1) :* var 1) :* (unit :+ U :+ (W :+ W))), var 5, number 1) ∷ []) (given (N-number 1) none) (tip_of first_corner third_corner) (var 5 :* (((var 0 :* var 1) :* var 1) :* (unit :+ U :+ (W :+ W)))) refl;
   }
 
   pub pair11_values : HasValues (pair_kind 1 1) 6 x y z t s one (((t ⊗ s) ⊗ t) ⊗ t)
-  unfolding values
+  unfolding values pair11_whole
   pair11_values = record {
-    c = 2;
-    factors = whole-mul (pos 2) (pos 6);
-    whole_triangle = ring_from fraction_ring (values 2) ((opposite (unit), var 5, number 2) ∷ []) (given (N-number 2) none) (twelve_of second_corner second_corner) (var 5 :* unit) refl;
+    over_whole = pair11_whole x y z;
     at_tip = ring_from fraction_ring (values 2) ((opposite (((var 0 :* var 1) :* var 0) :* var 0), var 5, number 2) ∷ []) (given (N-number 2) none) (tip_of second_corner second_corner) (var 5 :* (((var 0 :* var 1) :* var 0) :* var 0)) refl;
   }
 
   pub pair12_values : HasValues (pair_kind 1 2) 12 x y z t s one (((t ⊗ s) ⊗ t) ⊗ s)
-  unfolding values
+  unfolding values pair12_whole
   pair12_values = record {
-    c = 1;
-    factors = whole-mul (pos 1) (pos 12);
-    whole_triangle = ring_from fraction_ring (values 1) ((opposite (unit), var 5, number 1) ∷ []) (given (N-number 1) none) (twelve_of second_corner third_corner) (var 5 :* unit) refl;
+    over_whole = pair12_whole x y z;
     at_tip = ring_from fraction_ring (values 1) ((opposite (((var 0 :* var 1) :* var 0) :* var 1), var 5, number 1) ∷ []) (given (N-number 1) none) (tip_of second_corner third_corner) (var 5 :* (((var 0 :* var 1) :* var 0) :* var 1)) refl;
   }
 
   pub pair22_values : HasValues (pair_kind 2 2) 6 x y z t s one (((t ⊗ s) ⊗ s) ⊗ s)
-  unfolding values
+  unfolding values pair22_whole
   pair22_values = record {
-    c = 2;
-    factors = whole-mul (pos 2) (pos 6);
-    whole_triangle = ring_from fraction_ring (values 2) ((opposite (unit), var 5, number 2) ∷ []) (given (N-number 2) none) (twelve_of third_corner third_corner) (var 5 :* unit) refl;
+    over_whole = pair22_whole x y z;
     at_tip = ring_from fraction_ring (values 2) ((opposite (((var 0 :* var 1) :* var 1) :* var 1), var 5, number 2) ∷ []) (given (N-number 2) none) (tip_of third_corner third_corner) (var 5 :* (((var 0 :* var 1) :* var 1) :* var 1)) refl;
   }
 
   -- the depth is nought at both ends of the line
   module _ (i : Form.IsPart fractions x y t) (j : Form.IsPart fractions x z s) where
     pub depth_values : HasValues depth_kind 3 x y z t s (x ⊕ y ⊕ z) (x ⊗ (t ⊗ s))
-    unfolding values
+    unfolding values depth_whole
     depth_values = record {
-      c = 4;
-      factors = whole-mul (pos 4) (pos 3);
-      whole_triangle = ring_from fraction_ring (values 4) ((opposite ((var 2 :+ var 3 :+ var 4)), var 5, number 4) ∷ []) (given (N-number 4) none) (twelve_of ones depths) (var 5 :* (var 2 :+ var 3 :+ var 4)) refl;
+      over_whole = depth_whole x y z;
       at_tip = ring_from fraction_ring (values 4) ((opposite (var 2 :* (var 0 :* var 1)), var 5, number 4) ∷ (opposite ((var 0 :* var 1) :* ((at_tip_of ones).1 :+ ((at_tip_of ones).0 :+ (at_tip_of ones).1 :+ (at_tip_of ones).2))), var 0 :* (var 2 :- var 3), var 2) ∷ (opposite ((var 0 :* var 1) :* ((at_tip_of ones).2 :+ ((at_tip_of ones).0 :+ (at_tip_of ones).1 :+ (at_tip_of ones).2))), var 1 :* (var 2 :- var 4), var 2) ∷ [])
           (given (N-number 4) (given i (given j none))) (tip_of ones depths) (var 5 :* (var 2 :* (var 0 :* var 1))) refl;
     }
 
     pub weighted0_values : HasValues (weighted_kind 0) 12 x y z t s ((x ⊕ y ⊕ z) ⊕ x) ((x ⊗ (t ⊗ s)) ⊗ ((one ⊕ one) ⊕ u ⊕ v))
-    unfolding values
+    unfolding values weighted0_whole
     weighted0_values = record {
-      c = 1;
-      factors = whole-mul (pos 1) (pos 12);
-      whole_triangle = ring_from fraction_ring (values 1) ((opposite (((var 2 :+ var 3 :+ var 4) :+ var 2)), var 5, number 1) ∷ []) (given (N-number 1) none) (twelve_of first_corner depths) (var 5 :* ((var 2 :+ var 3 :+ var 4) :+ var 2)) refl;
+      over_whole = weighted0_whole x y z;
       at_tip = ring_from fraction_ring (values 1) ((opposite ((var 2 :* (var 0 :* var 1)) :* ((unit :+ unit) :+ U :+ W)), var 5, number 1) ∷ (opposite ((var 0 :* var 1) :* ((at_tip_of first_corner).1 :+ ((at_tip_of first_corner).0 :+ (at_tip_of first_corner).1 :+ (at_tip_of first_corner).2))), var 0 :* (var 2 :- var 3), var 2) ∷ (opposite ((var 0 :* var 1) :* ((at_tip_of first_corner).2 :+ ((at_tip_of first_corner).0 :+ (at_tip_of first_corner).1 :+ (at_tip_of first_corner).2))), var 1 :* (var 2 :- var 4), var 2) ∷ [])
           (given (N-number 1) (given i (given j none))) (tip_of first_corner depths) (var 5 :* ((var 2 :* (var 0 :* var 1)) :* ((unit :+ unit) :+ U :+ W))) refl;
     }
 
     pub weighted1_values : HasValues (weighted_kind 1) 12 x y z t s ((x ⊕ y ⊕ z) ⊕ y) ((x ⊗ (t ⊗ s)) ⊗ t)
-    unfolding values
+    unfolding values weighted1_whole
     weighted1_values = record {
-      c = 1;
-      factors = whole-mul (pos 1) (pos 12);
-      whole_triangle = ring_from fraction_ring (values 1) ((opposite (((var 2 :+ var 3 :+ var 4) :+ var 3)), var 5, number 1) ∷ []) (given (N-number 1) none) (twelve_of second_corner depths) (var 5 :* ((var 2 :+ var 3 :+ var 4) :+ var 3)) refl;
+      over_whole = weighted1_whole x y z;
       at_tip = ring_from fraction_ring (values 1) ((opposite ((var 2 :* (var 0 :* var 1)) :* var 0), var 5, number 1) ∷ (opposite ((var 0 :* var 1) :* ((at_tip_of second_corner).1 :+ ((at_tip_of second_corner).0 :+ (at_tip_of second_corner).1 :+ (at_tip_of second_corner).2))), var 0 :* (var 2 :- var 3), var 2) ∷ (opposite ((var 0 :* var 1) :* ((at_tip_of second_corner).2 :+ ((at_tip_of second_corner).0 :+ (at_tip_of second_corner).1 :+ (at_tip_of second_corner).2))), var 1 :* (var 2 :- var 4), var 2) ∷ [])
           (given (N-number 1) (given i (given j none))) (tip_of second_corner depths) (var 5 :* ((var 2 :* (var 0 :* var 1)) :* var 0)) refl;
     }
 
     pub weighted2_values : HasValues (weighted_kind 2) 12 x y z t s ((x ⊕ y ⊕ z) ⊕ z) ((x ⊗ (t ⊗ s)) ⊗ s)
-    unfolding values
+    unfolding values weighted2_whole
     weighted2_values = record {
-      c = 1;
-      factors = whole-mul (pos 1) (pos 12);
-      whole_triangle = ring_from fraction_ring (values 1) ((opposite (((var 2 :+ var 3 :+ var 4) :+ var 4)), var 5, number 1) ∷ []) (given (N-number 1) none) (twelve_of third_corner depths) (var 5 :* ((var 2 :+ var 3 :+ var 4) :+ var 4)) refl;
+      over_whole = weighted2_whole x y z;
       at_tip = ring_from fraction_ring (values 1) ((opposite ((var 2 :* (var 0 :* var 1)) :* var 1), var 5, number 1) ∷ (opposite ((var 0 :* var 1) :* ((at_tip_of third_corner).1 :+ ((at_tip_of third_corner).0 :+ (at_tip_of third_corner).1 :+ (at_tip_of third_corner).2))), var 0 :* (var 2 :- var 3), var 2) ∷ (opposite ((var 0 :* var 1) :* ((at_tip_of third_corner).2 :+ ((at_tip_of third_corner).0 :+ (at_tip_of third_corner).1 :+ (at_tip_of third_corner).2))), var 1 :* (var 2 :- var 4), var 2) ∷ [])
           (given (N-number 1) (given i (given j none))) (tip_of third_corner depths) (var 5 :* ((var 2 :* (var 0 :* var 1)) :* var 1)) refl;
     }
