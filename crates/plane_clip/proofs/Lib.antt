@@ -10,3 +10,5 @@ pub mod RoundedBounds
 pub mod Crossings
 pub mod RoundedShares
 pub mod RoundedDepths
+pub mod Spread
+pub mod Enclosed

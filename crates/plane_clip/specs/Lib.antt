@@ -1,2 +1,3 @@
 pub mod TriangleLaws
 pub mod Rounded
+pub mod Enclosure
