@@ -12,3 +12,5 @@ pub mod RoundedShares
 pub mod RoundedDepths
 pub mod Spread
 pub mod Enclosed
+pub mod ReadDepths
+pub mod FromEnds

@@ -46,16 +46,11 @@ abbrev pub IsNoWider : (F extra : ℕ) → List (Span 20) → Span F → Mean �
 IsNoWider F extra h span mean =
     (whole span.hi ⊖ whole span.lo) ≼ (((mean_at mean (greatest_depths h) ⊖ mean_at mean (least_depths h)) ⊗ whole (pos (2 ^ F))) ⊕ whole (pos extra))
 
--- the same of each span of a list, in the order of the means
-abbrev pub EachEncloses : (F : ℕ) → List (Span 20) → List (Span F) → List Mean → Type 0
-EachEncloses F h [] [] = Unit {0}
-EachEncloses F h (span ∷ spans) (mean ∷ means) = Encloses F h span mean × EachEncloses F h spans means
-EachEncloses F h _ _ = ⊥
-
-abbrev pub EachIsNoWider : (F extra : ℕ) → List (Span 20) → List (Span F) → List Mean → Type 0
-EachIsNoWider F extra h [] [] = Unit {0}
-EachIsNoWider F extra h (span ∷ spans) (mean ∷ means) = IsNoWider F extra h span mean × EachIsNoWider F extra h spans means
-EachIsNoWider F extra h _ _ = ⊥
+-- each span of a list and the mean at its place in another are so related
+abbrev pub Each : {F : ℕ} → (Span F → Mean → Type 0) → List (Span F) → List Mean → Type 0
+Each R [] [] = Unit {0}
+Each R (span ∷ spans) (mean ∷ means) = R span mean × Each R spans means
+Each R _ _ = ⊥
 
 abbrev pub corner_means : List Mean
 corner_means = wet_corner 0 ∷ wet_corner 1 ∷ wet_corner 2 ∷ []

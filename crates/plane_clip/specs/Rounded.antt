@@ -1,6 +1,7 @@
 -- The ends of the means at corner depths of whole units 2^-20 mm, in whole numbers. Shares and means of coordinates are in units of 2^-40,
 -- depths in those of 2^-20 mm. `up` says whether a number is rounded up.
-use Rattle.std.specs.Prelude.{ℕ, zero, suc, ◌+◌, ◌-◌, ◌*◌, ◌/◌, ◌^◌, ◌<◌, ◌≤◌, ℤ, pos, negsuc, ◌+ℤ◌, ◌≤ℤ◌, unsigned_abs, Bool, true, false}
+use Rattle.std.specs.Prelude.{◌≡◌, ℕ, zero, suc, ◌+◌, ◌-◌, ◌*◌, ◌/◌, ◌^◌, ◌<◌, ◌≤◌, ℤ, pos, negsuc, ◌+ℤ◌, unsigned_abs, Bool, true, false, List, [], ◌∷◌}
+use Rattle.outward_interval.specs.declared.span.Span.{Span}
 use Rattle.std.specs.Int.{int_div_euclid, div_ceil}
 use Rattle.plane_clip.specs.declared.shares.Shares.{Shares}
 
@@ -218,3 +219,21 @@ pub record SharesOrdered (l h : Shares) : Type 0 where
   pub p11 : l.p11 ≤ h.p11
   pub p12 : l.p12 ≤ h.p12
   pub p22 : l.p22 ≤ h.p22
+
+-- spans have these lower and these upper ends
+abbrev pub AreEndsOf : (F : ℕ) → Span F → ℤ → ℤ → Type 0
+AreEndsOf F span lo hi = (span.lo ≡ lo) × (span.hi ≡ hi)
+
+abbrev pub AreEachEnds : (F : ℕ) → List (Span F) → List ℤ → List ℤ → Type 0
+AreEachEnds F [] [] [] = Unit {0}
+AreEachEnds F (span ∷ spans) (lo ∷ los) (hi ∷ his) = AreEndsOf F span lo hi × AreEachEnds F spans los his
+AreEachEnds F _ _ _ = ⊥
+
+abbrev pub corners_of : Shares → List ℤ
+corners_of n = pos n.c0 ∷ pos n.c1 ∷ pos n.c2 ∷ []
+
+abbrev pub pairs_of : Shares → List ℤ
+pairs_of n = pos n.p00 ∷ pos n.p01 ∷ pos n.p02 ∷ pos n.p11 ∷ pos n.p12 ∷ pos n.p22 ∷ []
+
+abbrev pub weighted_of : DepthEnds → List ℤ
+weighted_of n = n.first ∷ n.second ∷ n.third ∷ []

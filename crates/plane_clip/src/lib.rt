@@ -6,5 +6,7 @@ mod laws;
 mod means;
 mod rounding;
 mod shares;
+mod triangle;
 
 pub use laws::wet_means_obey_the_laws;
+pub use triangle::{WetDepths, WetShare, wet, wet_depths};
