@@ -2,7 +2,7 @@
 -- of dual numbers, at depths h + p·ε + q·δ, its part at ε·δ is twelve times the mean of p·q over the part of a triangle where h is above
 -- nought: so what holds of it in every such ring holds of the means of all products of two linear functions.
 use mathlib.Core.Path.{◌≡◌, refl, sym, ◌∙◌, ap, ap₂, subst}
-use mathlib.Core.List.{List, [], ◌∷◌}
+use mathlib.Core.List.{[], ◌∷◌}
 use mathlib.Core.Logic.{◌≢◌}
 use mathlib.Core.Bool.{Bool, true, false}
 use Rattle.exact_algebra.specs.Expression.{Expression, var, unit, number, ◌:+◌, ◌:-◌, ◌:*◌, opposite}

@@ -1,11 +1,11 @@
 -- Commutative rings with a sign in which a number of sign `level` is infinitely small, and each other has an inverse: local rings.
 -- An ordered field is one, and so are the dual numbers x + y·ε over one, with ε·ε = 0. A law that holds of depths h + w·ε holds, in
 -- its second part, of the derivative along w.
-use mathlib.Core.Path.{◌≡◌, refl, sym, ◌∙◌, ap, ap₂}
-use mathlib.Core.List.{List, [], ◌∷◌}
+use mathlib.Core.Path.{◌≡◌, refl, ◌∙◌, ap}
+use mathlib.Core.List.{[], ◌∷◌}
 use mathlib.Core.Logic.{◌≢◌}
 use Rattle.exact_algebra.specs.Expression.{var, unit, number, ◌:+◌, ◌:-◌, ◌:*◌, opposite}
-use Rattle.exact_algebra.specs.Ring.{Operations, CommutativeRing}
+use Rattle.exact_algebra.specs.Ring.{CommutativeRing}
 use Rattle.exact_algebra.specs.OrderedField.{OrderedField, ring_of, Sign, level}
 use Rattle.exact_algebra.proofs.Ring.{ring, ring_from, none, given}
 use Rattle.exact_algebra.proofs.NormalForm.{mul_nought}

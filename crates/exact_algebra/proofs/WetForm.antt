@@ -1,12 +1,12 @@
 -- Twelve times the mean of the product of two linear functions over the part of a triangle where the depth is above nought: its closed
 -- form, how it adds up at a split of any edge, its symmetry, and its value by the sides of the corners.
-use mathlib.Core.Path.{◌≡◌, refl, sym, ◌∙◌, ap, ap₂, subst}
+use mathlib.Core.Path.{◌≡◌, refl, sym, ◌∙◌, ap, ap₂}
 use mathlib.Core.List.{List, [], ◌∷◌}
 use mathlib.Core.Logic.{◌≢◌}
 use mathlib.Core.Bool.{Bool, true, false}
 use Rattle.exact_algebra.specs.Expression.{Expression, var, unit, number, ◌:+◌, ◌:-◌, ◌:*◌, opposite}
 use Rattle.exact_algebra.specs.Ring.{CommutativeRing}
-use Rattle.exact_algebra.specs.OrderedField.{OrderedField, ring_of, Sign, below, level, above}
+use Rattle.exact_algebra.specs.OrderedField.{OrderedField, ring_of, below, above}
 use Rattle.exact_algebra.proofs.Ring.{ring, ring_from, none, given}
 use Rattle.exact_algebra.proofs.DualNumbers.{LocalRing, of_field, dual, small_vanish, pairs_vanish, triples_vanish}
 use Rattle.exact_algebra.proofs.DividedDifference as Difference

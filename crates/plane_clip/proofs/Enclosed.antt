@@ -1,18 +1,17 @@
 -- For all depths within spans: the means rise with the depths, so the ends at the least and at the greatest depths enclose them, and lie no
 -- further apart than the means there and a few units.
-use Prim.Native.Nat.{ℕ, zero, suc, ◌+◌, ◌<◌, ◌≤◌, ◌^◌}
+use Prim.Native.Nat.{ℕ, ◌+◌, ◌≤◌, ◌^◌}
 use native.Mathlib.Omega.{arith}
-use mathlib.Core.Path.{◌≡◌, refl, sym, ◌∙◌, ap}
-use mathlib.Core.List.{List, [], ◌∷◌}
+use mathlib.Core.Path.{◌≡◌, refl, sym}
+use mathlib.Core.List.{[], ◌∷◌}
 use mathlib.Core.Bool.{Bool, true, false}
 use lib.IntN.{ℤ, pos, ◌+ℤ◌}
 use lib.Signed.{◌≤ℤ◌}
 use borrow.Author.Differences.{ints}
-use Rattle.exact_algebra.specs.Expression.{var, unit, number, ◌:+◌, ◌:-◌, ◌:*◌, opposite}
-use Rattle.exact_algebra.specs.OrderedField.{above}
+use Rattle.exact_algebra.specs.Expression.{var, unit, ◌:+◌, ◌:-◌, ◌:*◌, opposite}
 use Rattle.exact_algebra.proofs.Ring.{ring_from, none, given}
-use Rattle.exact_algebra.proofs.Fraction.{Fraction, ◌⊕◌, ◌⊗◌, ◌⊖◌, inverse, sign, fractions, fraction_ring, ◌≼◌}
-use Rattle.exact_algebra.proofs.Whole.{whole, whole-add, whole-≼, whole-≼_out, positive-whole, nonnegative-whole}
+use Rattle.exact_algebra.proofs.Fraction.{Fraction, ◌⊕◌, ◌⊗◌, ◌⊖◌, inverse, fractions, fraction_ring, ◌≼◌}
+use Rattle.exact_algebra.proofs.Whole.{whole, whole-add, whole-≼, whole-≼_out, nonnegative-whole}
 use Rattle.exact_algebra.proofs.Order as Order
 use Rattle.exact_algebra.proofs.Order.{order_from, no_more, at_most, equal}
 use Rattle.exact_algebra.proofs.Bounds as Bounds
@@ -23,7 +22,7 @@ use Rattle.plane_clip.specs.Enclosure.{in_unit}
 use Rattle.plane_clip.proofs.MeanKinds.{Kind, share_kind, corner_kind, pair_kind, depth_kind, weighted_kind, mean_at, kind_rises}
 use Rattle.plane_clip.proofs.RoundedShares.{AreRoundedShares, rounded_shares}
 use Rattle.plane_clip.proofs.RoundedDepths.{AreRoundedDepths, rounded_depths}
-use Rattle.plane_clip.proofs.Spread.{AreTightShares, tight_shares, AreTightDepths, tight_depths}
+use Rattle.plane_clip.proofs.Spread.{tight_shares, tight_depths}
 
 at_unit : (z : ℤ) → in_unit 20 z ⊗ whole (pos (2 ^ 20)) ≡ whole z
 unfolding in_unit

@@ -1,13 +1,11 @@
 -- The kinds of mean over the wet part, each the mean of the product of a weight and a factor that doesn't fall with the depth.
-use Prim.Native.Nat.{ℕ, zero, suc}
-use native.Mathlib.Omega.{arith}
-use mathlib.Core.Path.{◌≡◌, refl, sym, ◌∙◌, ap, ap₂}
-use mathlib.Core.List.{List, [], ◌∷◌}
+use Prim.Native.Nat.{ℕ}
+use mathlib.Core.Path.{◌≡◌, refl, sym, ◌∙◌, ap}
+use mathlib.Core.List.{[], ◌∷◌}
 use mathlib.Core.Logic.{◌≢◌}
-use lib.IntN.{ℤ, pos}
-use Rattle.exact_algebra.specs.Expression.{var, unit, number, ◌:+◌, ◌:-◌, ◌:*◌, opposite}
-use Rattle.exact_algebra.proofs.Ring.{ring, ring_from, none, given}
-use Rattle.exact_algebra.proofs.Fraction.{Fraction, nought, one, ◌⊕◌, ◌⊗◌, ◌⊖◌, inverse, sign, fractions, fraction_ring, ◌≼◌}
+use Rattle.exact_algebra.specs.Expression.{var, ◌:+◌, ◌:*◌}
+use Rattle.exact_algebra.proofs.Ring.{ring}
+use Rattle.exact_algebra.proofs.Fraction.{Fraction, nought, one, ◌⊗◌, inverse, sign, fractions, fraction_ring, ◌≼◌}
 use Rattle.exact_algebra.specs.OrderedField.{below}
 use Rattle.exact_algebra.proofs.WetForm as Form
 use Rattle.hull_model.specs.TriangleCut.{Triangle}

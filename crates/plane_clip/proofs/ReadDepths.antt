@@ -1,8 +1,8 @@
 -- Ends that went to bits and back, and what the calls at both ends give.
-use Rattle.std.proofs.Common.{◌≡◌, refl, sym, ◌∙◌, ap, subst, ℤ, pos, to_z, of_z, ◌≤ℤ◌, ◌<◌, ◌≤◌, ◌^◌, unsigned_abs, arith, ℕ, Bool, true, false, List, [], ◌∷◌}
+use Rattle.std.proofs.Common.{◌≡◌, sym, ◌∙◌, subst, ℤ, to_z, of_z, ◌≤ℤ◌, ◌<◌, ◌^◌, arith, ℕ, Bool, true, false, List, [], ◌∷◌}
 use Rattle.std.proofs.lemmas.Int.{to_z-of_z, fits_signed_from_abs}
 use mir.Syntax.{w64}
-use mir.Val.{SFits, hbits}
+use mir.Val.{hbits}
 use Rattle.outward_interval.specs.declared.span.Span.{Span}
 use Rattle.plane_clip.specs.declared.shares.Shares.{Shares}
 use Rattle.plane_clip.specs.Rounded.{Near, DepthEnds, share_ends, depth_ends, SharesOrdered, AreEachEnds, weighted_of}

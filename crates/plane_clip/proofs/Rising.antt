@@ -1,28 +1,27 @@
 -- Means over the wet part rise with the depths of the corners: of the product of a coordinate or 1 with another, or with the depth.
 use Prim.Native.Nat.{ℕ, zero, suc}
 use native.Mathlib.Omega.{arith}
-use mathlib.Core.Path.{◌≡◌, refl, sym, ◌∙◌, ap, ap₂, subst}
-use mathlib.Core.List.{List, [], ◌∷◌}
-use mathlib.Core.Logic.{◌≢◌, ◌⊎◌, inl, inr}
+use mathlib.Core.Path.{◌≡◌, refl, sym, ◌∙◌, ap}
+use mathlib.Core.List.{[], ◌∷◌}
+use mathlib.Core.Logic.{◌≢◌}
 use mathlib.Core.Bool.{Bool, true, false}
-use lib.IntN.{ℤ, pos}
-use Rattle.exact_algebra.specs.Expression.{var, unit, number, ◌:+◌, ◌:-◌, ◌:*◌, opposite}
+use Rattle.exact_algebra.specs.Expression.{var, unit, number, ◌:+◌, ◌:-◌, ◌:*◌}
 use Rattle.exact_algebra.specs.OrderedField.{Sign, below, level, above}
-use Rattle.exact_algebra.proofs.Ring.{ring, ring_from, none, given}
-use Rattle.exact_algebra.proofs.Fraction.{Fraction, nought, one, ◌⊕◌, ◌⊗◌, ◌⊖◌, negative, inverse, sign, fractions, fraction_ring, ◌≼◌}
-use Rattle.exact_algebra.proofs.Whole.{whole, positive-whole}
+use Rattle.exact_algebra.proofs.Ring.{ring}
+use Rattle.exact_algebra.proofs.Fraction.{Fraction, nought, one, ◌⊕◌, ◌⊗◌, ◌⊖◌, sign, fractions, fraction_ring, ◌≼◌}
+use Rattle.exact_algebra.proofs.Whole.{positive-whole}
 use Rattle.exact_algebra.proofs.Order as Order
 use Rattle.exact_algebra.proofs.Order.{order_from, no_more, at_most, scaled, equal}
 use Rattle.exact_algebra.proofs.WetForm as Form
 use Rattle.exact_algebra.proofs.DividedDifference as Over
 use Rattle.hull_model.specs.Fractions.{interpolated}
 use Rattle.hull_model.specs.TriangleCut.{Triangle, triangle, Corners, is_kept_by, are_opposite, side, crossing}
-use Rattle.hull_model.specs.WetMean.{Place, places, with_depths, linear_mean, product_mean, coordinate, wet_mean}
+use Rattle.hull_model.specs.WetMean.{Place, with_depths, product_mean, coordinate, wet_mean}
 use Rattle.hull_model.proofs.TriangleCut.{IsLinear}
 use Rattle.plane_clip.specs.TriangleLaws.{between}
-use Rattle.plane_clip.proofs.CutInduction.{IsInside, NoneBelow, NoneAbove, one_side, inside, crossing_parameter, cut_induction}
+use Rattle.plane_clip.proofs.CutInduction.{IsInside, one_side, inside, crossing_parameter, cut_induction}
 use Rattle.plane_clip.proofs.WetSum.{IsLinearOn, N12, valued, form_at, twelve_at, form_first, form_middle, form_last, wet_mean-form, kept_none_below, not_all_level, not_kept_either}
-use Rattle.plane_clip.proofs.TriangleLaws.{constant, constant_linear, depth_at, depth_linear, coordinate_linear, share-twelfth, linear-twelfth, product-twelfth}
+use Rattle.plane_clip.proofs.TriangleLaws.{constant, constant_linear, depth_at, depth_linear, coordinate_linear, product-twelfth}
 
 abbrev NonNegative : Fraction → Type 0
 NonNegative x = sign x ≢ below
@@ -178,10 +177,10 @@ module _ (f g : Place → Fraction) (weight : IsWeight f) (rising : IsRising g) 
           by_values
           (Form.form_wet fractions (valued f g a.0) (valued f g b.0) (valued f g c.0) n.0 n.1 n.2 (not_all_level (sign a.0.depth) (sign b.0.depth) (sign c.0.depth) k))
           (Form.form_wet fractions (valued f g a.1) (valued f g b.1) (valued f g c.1) (up a x n.0) (up b y n.1) (up c z n.2)
-            (λ p q r. not_all_level (sign a.0.depth) (sign b.0.depth) (sign c.0.depth) k (above_low a.0.depth a.1.depth x.deeper p) (above_low b.0.depth b.1.depth y.deeper q) (above_low c.0.depth c.1.depth z.deeper r)))
+          (λ p q r. not_all_level (sign a.0.depth) (sign b.0.depth) (sign c.0.depth) k (above_low a.0.depth a.1.depth x.deeper p) (above_low b.0.depth b.1.depth y.deeper q) (above_low c.0.depth c.1.depth z.deeper r)))
           (Order.≼-add fractions (Order.≼-add fractions (Order.≼-add fractions (product a x n.0) (product b y n.1)) (product c z n.2))
           (Order.≼-mul_both fractions (nonnegative-sum _ _ _ (weight.low a x) (weight.low b y) (weight.low c z)) (nonnegative-sum _ _ _ (rising.high a x (up a x n.0)) (rising.high b y (up b y n.1)) (rising.high c z (up c z n.2)))
-            (Order.≼-add fractions (Order.≼-add fractions (weight.rises a x) (weight.rises b y)) (weight.rises c z)) (Order.≼-add fractions (Order.≼-add fractions (rising.rises a x) (rising.rises b y)) (rising.rises c z))))
+          (Order.≼-add fractions (Order.≼-add fractions (weight.rises a x) (weight.rises b y)) (weight.rises c z)) (Order.≼-add fractions (Order.≼-add fractions (rising.rises a x) (rising.rises b y)) (rising.rises c z))))
       go false k = let n = not_kept_either (sign a.0.depth) (sign b.0.depth) (sign c.0.depth) k (one_side (sign a.0.depth) (sign b.0.depth) (sign c.0.depth) e h l) in
           by_values (Form.form_dry fractions (valued f g a.0) (valued f g b.0) (valued f g c.0) n.0 n.1 n.2) refl
           (Order.nonnegative_same fractions (ring fraction_ring (form a.1 b.1 c.1 ∷ []) (var 0 :- number 0) (var 0) refl) (is_nonnegative a b c x y z))
@@ -205,9 +204,9 @@ module _ (f g : Place → Fraction) (weight : IsWeight f) (rising : IsRising g) 
   mean_rises mean is_twelfth h k l h' k' l' x y z = Order.≼_cancel fractions (positive-whole 12 (omega arith))
       (by_values (wet_mean-form mean f g weight.linear rising.linear is_twelfth h k l) (wet_mean-form mean f g weight.linear rising.linear is_twelfth h' k' l')
       (form_rises (low.a, high.a) (low.b, high.b) (low.c, high.c)
-        (record { first = some; second = none_left; third = none_left; same_first = same one; same_second = same nought; same_third = same nought; deeper = x })
-        (record { first = none_left; second = some; third = none_left; same_first = same nought; same_second = same one; same_third = same nought; deeper = y })
-        (record { first = none_left; second = none_left; third = some; same_first = same nought; same_second = same nought; same_third = same one; deeper = z })))
+      (record { first = some; second = none_left; third = none_left; same_first = same one; same_second = same nought; same_third = same nought; deeper = x })
+      (record { first = none_left; second = some; third = none_left; same_first = same nought; same_second = same one; same_third = same nought; deeper = y })
+      (record { first = none_left; second = none_left; third = some; same_first = same nought; same_second = same nought; same_third = same one; deeper = z })))
     where
       low : Triangle Place
       low = with_depths h k l
@@ -229,9 +228,9 @@ module _ (f g : Place → Fraction) (weight : IsWeight f) (rising : IsRising g) 
   mean_nonnegative mean is_twelfth h k l = Order.nonnegative_factor fractions (positive-whole 12 (omega arith))
       (Order.nonnegative_same fractions (wet_mean-form mean f g weight.linear rising.linear is_twelfth h k l)
       (is_nonnegative (w.a, w.a) (w.b, w.b) (w.c, w.c)
-        (record { first = some; second = none_left; third = none_left; same_first = same one; same_second = same nought; same_third = same nought; deeper = same h })
-        (record { first = none_left; second = some; third = none_left; same_first = same nought; same_second = same one; same_third = same nought; deeper = same k })
-        (record { first = none_left; second = none_left; third = some; same_first = same nought; same_second = same nought; same_third = same one; deeper = same l })))
+      (record { first = some; second = none_left; third = none_left; same_first = same one; same_second = same nought; same_third = same nought; deeper = same h })
+      (record { first = none_left; second = some; third = none_left; same_first = same nought; same_second = same one; same_third = same nought; deeper = same k })
+      (record { first = none_left; second = none_left; third = some; same_first = same nought; same_second = same nought; same_third = same one; deeper = same l })))
     where
       w : Triangle Place
       w = with_depths h k l

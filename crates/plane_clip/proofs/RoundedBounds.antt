@@ -1,20 +1,20 @@
 -- Bounds of products, sums and parts that are rounded down or up, from natural numbers to fractions. Every term is built of numbers that
 -- aren't below nought, so bounds of the parts give bounds of the whole.
-use Prim.Native.Nat.{ℕ, zero, suc, ◌+◌, ◌-◌, ◌*◌, ◌/◌, ◌<◌, ◌≤◌, ◌^◌}
+use Prim.Native.Nat.{ℕ, ◌+◌, ◌-◌, ◌*◌, ◌/◌, ◌<◌, ◌≤◌, ◌^◌}
 use native.Mathlib.Omega.{arith}
-use mathlib.Core.Path.{◌≡◌, refl, sym, ◌∙◌, ap, ap₂, subst}
-use mathlib.Core.List.{List, [], ◌∷◌}
+use mathlib.Core.Path.{◌≡◌, refl, sym, ◌∙◌, ap, subst}
+use mathlib.Core.List.{[], ◌∷◌}
 use mathlib.Core.Logic.{◌≢◌, ◌⊎◌, inl, inr}
 use mathlib.Core.Bool.{Bool, true, false}
-use lib.IntN.{ℤ, pos}
+use lib.IntN.{pos}
 use lib.Signed.{◌≤ℤ◌}
 use borrow.Author.Differences.{ints}
 use Rattle.std.proofs.Math.Nat.{div-mul-le_self, lt-div-mul-add, eq-or-lt_of_le}
 use Rattle.exact_algebra.specs.Expression.{var, unit, number, ◌:+◌, ◌:-◌, ◌:*◌, opposite}
-use Rattle.exact_algebra.specs.OrderedField.{Sign, below, level, above}
+use Rattle.exact_algebra.specs.OrderedField.{below, above}
 use Rattle.exact_algebra.proofs.Ring.{ring, ring_from, none, given}
-use Rattle.exact_algebra.proofs.Fraction.{Fraction, nought, one, ◌⊕◌, ◌⊗◌, ◌⊖◌, negative, sign, fractions, fraction_ring, ◌≼◌}
-use Rattle.exact_algebra.proofs.Whole.{whole, whole-add, whole-mul, whole-one, whole-nought, whole-≼, positive-whole, nonnegative-whole}
+use Rattle.exact_algebra.proofs.Fraction.{Fraction, nought, one, ◌⊕◌, ◌⊗◌, ◌⊖◌, sign, fractions, fraction_ring, ◌≼◌}
+use Rattle.exact_algebra.proofs.Whole.{whole, whole-add, whole-mul, whole-nought, whole-≼, positive-whole, nonnegative-whole}
 use Rattle.exact_algebra.proofs.Order as Order
 use Rattle.exact_algebra.proofs.Order.{order_from, no_more, at_most, scaled, equal}
 use Rattle.plane_clip.specs.Rounded.{scale, cube, bound, rest, part}
@@ -190,8 +190,11 @@ module _ (a b : ℕ) (t : Fraction) (some : 0 < a + b) (i : IsPartOf a b t) wher
         where
           filled : (T : ℕ) → T < 2 ^ 40 → rest false T + (T + 1) ≡ 2 ^ 40
           filled T l = omega (arith, l)
-  bound-rest true = (scaled_up (one ⊖ t) rest-nonnegative, order_from fractions (t ∷ P40 ∷ N (2 ^ 40 - part a b) ∷ N (part a b) ∷ []) ((unit, var 3, var 0 :* var 1) ∷ (unit, var 1, var 2 :+ var 3) ∷ [])
-      (at_most part-low (equal (ap N (sym (filled (part a b) (part-most a b))) ∙ N-add (2 ^ 40 - part a b) (part a b)) no_more)) ((unit :- var 0) :* var 1) (var 2) refl)
+  bound-rest true = (
+    scaled_up (one ⊖ t) rest-nonnegative,
+    order_from fractions (t ∷ P40 ∷ N (2 ^ 40 - part a b) ∷ N (part a b) ∷ []) ((unit, var 3, var 0 :* var 1) ∷ (unit, var 1, var 2 :+ var 3) ∷ [])
+        (at_most part-low (equal (ap N (sym (filled (part a b) (part-most a b))) ∙ N-add (2 ^ 40 - part a b) (part a b)) no_more)) ((unit :- var 0) :* var 1) (var 2) refl,
+  )
     where
       filled : (T : ℕ) → T ≤ 2 ^ 40 → (2 ^ 40 - T) + T ≡ 2 ^ 40
       filled T h = omega (arith, h)

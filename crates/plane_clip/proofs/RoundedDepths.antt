@@ -1,9 +1,8 @@
 -- The rounded depth means are bounds of the exact ones, at depths of whole units.
-use Prim.Native.Nat.{ℕ, zero, suc, ◌+◌, ◌-◌, ◌*◌, ◌/◌, ◌<◌, ◌≤◌, ◌^◌}
+use Prim.Native.Nat.{ℕ, ◌+◌, ◌-◌, ◌<◌, ◌^◌}
 use native.Mathlib.Omega.{arith}
-use mathlib.Core.Path.{◌≡◌, refl, sym, ◌∙◌, ap, ap₂, subst}
-use mathlib.Core.List.{List, [], ◌∷◌}
-use mathlib.Core.Logic.{◌≢◌}
+use mathlib.Core.Path.{◌≡◌, refl, sym, ◌∙◌, ap, subst}
+use mathlib.Core.List.{[], ◌∷◌}
 use mathlib.Core.Bool.{Bool, true, false}
 use lib.IntN.{ℤ, pos, ◌+ℤ◌, ◌*ℤ◌}
 use lib.Signed.{◌≤ℤ◌, ◌<ℤ◌}
@@ -11,21 +10,20 @@ use borrow.Author.Differences.{ints}
 use Rattle.std.specs.Prelude.{unsigned_abs}
 use Rattle.std.specs.Int.{int_div_euclid}
 use Rattle.exact_algebra.specs.Expression.{var, unit, number, ◌:+◌, ◌:-◌, ◌:*◌, opposite}
-use Rattle.exact_algebra.specs.OrderedField.{below, above}
-use Rattle.exact_algebra.specs.Span.{IsFloor}
+use Rattle.exact_algebra.specs.OrderedField.{above}
 use Rattle.exact_algebra.proofs.Ring.{ring, ring_from, none, given}
 use Rattle.exact_algebra.proofs.WholeNumbers.{integers}
 use Rattle.exact_algebra.proofs.Fraction.{Fraction, nought, one, ◌⊕◌, ◌⊗◌, ◌⊖◌, negative, sign, fractions, fraction_ring, ◌≼◌}
-use Rattle.exact_algebra.proofs.Whole.{whole, whole-add, whole-mul, whole-nought, whole-≼, positive-whole, nonnegative-whole}
+use Rattle.exact_algebra.proofs.Whole.{whole, whole-add, whole-mul, whole-nought, whole-≼, positive-whole}
 use Rattle.exact_algebra.proofs.Division.{floor_of-floor}
 use Rattle.exact_algebra.proofs.Order as Order
 use Rattle.exact_algebra.proofs.Order.{order_from, no_more, at_most, scaled, equal}
 use Rattle.exact_algebra.proofs.WetForm as Form
-use Rattle.plane_clip.specs.Rounded.{is_over, scale, cube, bound, rest, part, part_by, most_rest, quotient_of_sum, Tip, tip_from, depth_tip, no_tip, DepthEnds, sum_of, depths_from, depths_by, first_depths, second_depths, third_depths, depths_in_turn, depth_ends}
-use Rattle.plane_clip.proofs.MeanKinds.{Kind, depth_kind, weighted_kind, mean_at, kind_turn, depth_turn, weighted_turn0, weighted_turn1, weighted_turn2}
+use Rattle.plane_clip.specs.Rounded.{is_over, cube, bound, rest, part, part_by, quotient_of_sum, Tip, depth_tip, no_tip, DepthEnds, sum_of, depths_from, depths_by, first_depths, second_depths, third_depths, depths_in_turn, depth_ends}
+use Rattle.plane_clip.proofs.MeanKinds.{depth_kind, weighted_kind, mean_at, kind_turn, depth_turn, weighted_turn0, weighted_turn1, weighted_turn2}
 use Rattle.plane_clip.proofs.TipValues.{dry_value, wet_value, when_one, when_two, depth_whole, weighted0_whole, weighted1_whole, weighted2_whole, depth_values, weighted0_values, weighted1_values, weighted2_values}
-use Rattle.plane_clip.proofs.RoundedBounds.{NonNegative, N, P40, N-add, N-mul, same, BoundAt, Bound, bound-same, scale-bound, cube-bound, bound-add, bound-one, bound-twice, IsPartOf, bound-part, bound-rest}
-use Rattle.plane_clip.proofs.Crossings.{over-whole, whole-over, whole-under, Crossing, crossing_down, crossing_up}
+use Rattle.plane_clip.proofs.RoundedBounds.{N, same, BoundAt, scale-bound, cube-bound, bound-add, bound-one, bound-twice, IsPartOf, bound-part, bound-rest}
+use Rattle.plane_clip.proofs.Crossings.{over-whole, whole-over, whole-under, crossing_down, crossing_up}
 
 abbrev IsPart : Fraction → Fraction → Fraction → Type 0
 IsPart x y t = Form.IsPart fractions x y t

@@ -1,18 +1,18 @@
 -- The rounded shares and means of coordinates are bounds of the exact ones, at depths of whole units.
-use Prim.Native.Nat.{ℕ, zero, suc, ◌+◌, ◌-◌, ◌*◌, ◌/◌, ◌<◌, ◌≤◌, ◌^◌}
+use Prim.Native.Nat.{ℕ, ◌+◌, ◌-◌, ◌*◌, ◌<◌, ◌≤◌, ◌^◌}
 use native.Mathlib.Omega.{arith}
-use mathlib.Core.Path.{◌≡◌, refl, sym, ◌∙◌, ap, ap₂, subst}
-use mathlib.Core.List.{List, [], ◌∷◌}
-use mathlib.Core.Logic.{◌≢◌, ◌⊎◌, inl, inr}
+use mathlib.Core.Path.{◌≡◌, refl, sym, ◌∙◌, ap, subst}
+use mathlib.Core.List.{[], ◌∷◌}
+use mathlib.Core.Logic.{◌⊎◌, inl, inr}
 use mathlib.Core.Bool.{Bool, true, false}
-use lib.IntN.{ℤ, pos}
+use lib.IntN.{ℤ}
 use Rattle.std.specs.Prelude.{unsigned_abs}
 use Rattle.std.proofs.Math.Nat.{div-mul-le_self}
 use Rattle.std.proofs.lemmas.Bool.{cases_lt}
 use Rattle.std.proofs.lemmas.Grind.{div_ceil_times}
 use Rattle.exact_algebra.specs.Expression.{var, unit, number, ◌:+◌, ◌:-◌, ◌:*◌, opposite}
-use Rattle.exact_algebra.specs.OrderedField.{below, above}
-use Rattle.exact_algebra.proofs.Ring.{ring, ring_from, none, given}
+use Rattle.exact_algebra.specs.OrderedField.{above}
+use Rattle.exact_algebra.proofs.Ring.{ring}
 use Rattle.exact_algebra.proofs.Fraction.{Fraction, nought, one, ◌⊕◌, ◌⊗◌, ◌⊖◌, sign, fractions, fraction_ring, ◌≼◌}
 use Rattle.exact_algebra.proofs.Whole.{whole, whole-nought, positive-whole, nonnegative-whole}
 use Rattle.exact_algebra.proofs.Order as Order
@@ -22,8 +22,8 @@ use Rattle.plane_clip.specs.declared.shares.Shares.{Shares}
 use Rattle.plane_clip.specs.Rounded.{is_over, not, scale, quotient, bound, rest, part, part_by, tip_shares, tip_at, nothing, tip_ends, rest_ends, shares_by, first_shares, second_shares, third_shares, shares_in_turn, share_ends}
 use Rattle.plane_clip.proofs.MeanKinds.{Kind, share_kind, corner_kind, pair_kind, mean_at, kind_nonnegative, kind_turn, pair_swap, share_turn, corner_turn0, corner_turn1, corner_turn2, pair_turn00, pair_turn01, pair_turn02, pair_turn11, pair_turn12, pair_turn22}
 use Rattle.plane_clip.proofs.TipValues.{dry_value, wet_value, when_one, when_two, share_whole, corner0_whole, corner1_whole, corner2_whole, pair00_whole, pair01_whole, pair02_whole, pair11_whole, pair12_whole, pair22_whole, share_values, corner0_values, corner1_values, corner2_values, pair00_values, pair01_values, pair02_values, pair11_values, pair12_values, pair22_values}
-use Rattle.plane_clip.proofs.RoundedBounds.{NonNegative, N, P40, positive-P40, N-add, N-mul, N_le, same, Bound, bound-mul, bound-add, bound-twice, bound-one, bound-nought, IsPartOf, bound-part, bound-rest}
-use Rattle.plane_clip.proofs.Crossings.{over-whole, Crossing, crossing_down, crossing_up}
+use Rattle.plane_clip.proofs.RoundedBounds.{NonNegative, N, P40, N-add, N-mul, N_le, same, Bound, bound-mul, bound-add, bound-twice, bound-one, bound-nought, IsPartOf, bound-part, bound-rest}
+use Rattle.plane_clip.proofs.Crossings.{over-whole, crossing_down, crossing_up}
 
 abbrev IsPart : Fraction → Fraction → Fraction → Type 0
 IsPart x y t = Form.IsPart fractions x y t

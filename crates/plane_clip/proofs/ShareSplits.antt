@@ -1,13 +1,13 @@
 -- Shares of the parts of a triangle that is split at a point of an edge, and sums over lists.
 use mathlib.Core.Path.{◌≡◌, refl, sym, ◌∙◌, ap, ap₂}
 use mathlib.Core.List.{List, [], ◌∷◌, ◌++◌}
-use mathlib.Core.Logic.{◌≢◌, ◌⊎◌, inl, inr}
+use mathlib.Core.Logic.{◌≢◌}
 use Rattle.exact_algebra.specs.Expression.{Expression, var, unit, number, ◌:+◌, ◌:-◌, ◌:*◌, opposite}
 use Rattle.exact_algebra.specs.OrderedField.{Sign, below, level, above, turned, sign_product}
 use Rattle.exact_algebra.proofs.Ring.{ring, ring_from, none, given}
 use Rattle.exact_algebra.proofs.Fraction.{Fraction, nought, one, ◌⊕◌, ◌⊗◌, ◌⊖◌, negative, sign, fractions, fraction_ring, sign-one, sign-nought}
 use Rattle.exact_algebra.proofs.Order as Order
-use Rattle.hull_model.specs.Fractions.{magnitude, magnitude_by, interpolated, sum_over}
+use Rattle.hull_model.specs.Fractions.{magnitude, magnitude_by, sum_over}
 use Rattle.hull_model.specs.TriangleCut.{Triangle, triangle}
 use Rattle.hull_model.specs.WetMean.{Place, places, with_depths, turned_share, share_of}
 

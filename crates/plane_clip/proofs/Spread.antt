@@ -1,16 +1,15 @@
 -- At the same depths the numbers rounded up are at most a few units above those rounded down.
-use Prim.Native.Nat.{ℕ, zero, suc, ◌+◌, ◌-◌, ◌*◌, ◌/◌, ◌<◌, ◌≤◌, ◌^◌}
+use Prim.Native.Nat.{ℕ, ◌+◌, ◌-◌, ◌*◌, ◌<◌, ◌≤◌, ◌^◌}
 use native.Mathlib.Omega.{arith}
-use mathlib.Core.Path.{◌≡◌, refl, sym, ◌∙◌, ap, ap₂, subst}
-use mathlib.Core.List.{List, [], ◌∷◌}
-use mathlib.Core.Logic.{◌⊎◌, inl, inr}
+use mathlib.Core.Path.{◌≡◌, refl}
+use mathlib.Core.List.{[], ◌∷◌}
+use mathlib.Core.Logic.{inl, inr}
 use mathlib.Core.Bool.{Bool, true, false}
 use lib.IntN.{ℤ, pos, ◌+ℤ◌, ◌*ℤ◌}
 use lib.Signed.{◌≤ℤ◌, ◌<ℤ◌}
 use borrow.Author.Differences.{ints}
 use Rattle.std.specs.Prelude.{unsigned_abs}
-use Rattle.std.specs.Int.{int_div_euclid}
-use Rattle.std.proofs.Math.Nat.{div-mul-le_self, lt-div-mul-add, div-le_of_le-mul, mul-le-mul_left, mul-le-mul_right}
+use Rattle.std.proofs.Math.Nat.{lt-div-mul-add, div-le_of_le-mul, mul-le-mul_left, mul-le-mul_right}
 use Rattle.std.proofs.lemmas.Nat.{div_below}
 use Rattle.std.proofs.lemmas.Bool.{cases_lt}
 use Rattle.std.proofs.lemmas.Grind.{div_ceil_times}
@@ -19,7 +18,7 @@ use Rattle.exact_algebra.proofs.Ring.{ring}
 use Rattle.exact_algebra.proofs.WholeNumbers.{integers}
 use Rattle.exact_algebra.proofs.Division.{floor_of-floor}
 use Rattle.plane_clip.specs.declared.shares.Shares.{Shares}
-use Rattle.plane_clip.specs.Rounded.{Near, is_over, not, scale, quotient, most_rest, quotient_of_sum, part, part_by, part_between, bound, rest, cube, tip_shares, tip_at, nothing, tip_ends, rest_ends, shares_by, first_shares, second_shares, third_shares, shares_in_turn, share_ends, Tip, tip_from, depth_tip, no_tip, DepthEnds, sum_of, depths_from, depths_by, first_depths, second_depths, third_depths, depths_in_turn, depth_ends}
+use Rattle.plane_clip.specs.Rounded.{Near, is_over, scale, quotient, quotient_of_sum, part_by, part_between, rest, cube, tip_shares, tip_at, nothing, tip_ends, rest_ends, shares_by, first_shares, second_shares, shares_in_turn, share_ends, Tip, depth_tip, no_tip, DepthEnds, sum_of, depths_from, depths_by, first_depths, second_depths, depths_in_turn, depth_ends}
 use Rattle.plane_clip.proofs.PartSteps.{part-most}
 
 -- ---- products
@@ -136,7 +135,7 @@ tip_spread_at : (T S : ℕ) → T ≤ 2 ^ 40 → S ≤ 2 ^ 40 → SharesSpread (
 tip_spread_at T S t s = tip_spread T S (rest false T) (rest false S) (T + 1) (S + 1) (rest true T) (rest true S) t s (rest-most T) (rest-most S) (same_ℕ (T + 1)) (same_ℕ (S + 1)) (rest-spread T) (rest-spread S)
 
 nothing_spread : SharesSpread nothing nothing
-nothing_spread = record { share = omega arith; c0 = omega arith; c1 = omega arith; c2 = omega arith; p00 = omega arith; p01 = omega arith; p02 = omega arith; p11 = omega arith; p12 = omega arith; p22 = omega arith; }
+nothing_spread = record { share = omega arith; c0 = omega arith; c1 = omega arith; c2 = omega arith; p00 = omega arith; p01 = omega arith; p02 = omega arith; p11 = omega arith; p12 = omega arith; p22 = omega arith }
 
 -- ---- quotients
 cancel : (q r k : ℕ) → 0 < k → q * k < r * k → q < r
@@ -196,7 +195,7 @@ tight_rest n n' s = record {
 }
 
 tight_nothing : AreTightShares nothing nothing
-tight_nothing = record { share = omega arith; c0 = omega arith; c1 = omega arith; c2 = omega arith; p00 = omega arith; p01 = omega arith; p02 = omega arith; p11 = omega arith; p12 = omega arith; p22 = omega arith; }
+tight_nothing = record { share = omega arith; c0 = omega arith; c1 = omega arith; c2 = omega arith; p00 = omega arith; p01 = omega arith; p02 = omega arith; p11 = omega arith; p12 = omega arith; p22 = omega arith }
 
 part_by-most : (u v : Bool) (a b : ℕ) → part_by u v a b ≤ 2 ^ 40
 part_by-most true true a b = omega arith

@@ -2,17 +2,16 @@
 -- from them the mean over the wet part by the sides of the corners.
 use Prim.Native.Nat.{ℕ, zero, suc, ◌+◌}
 use native.Mathlib.Omega.{arith}
-use mathlib.Core.Path.{◌≡◌, refl, sym, ◌∙◌, ap, ap₂}
+use mathlib.Core.Path.{◌≡◌, refl, ◌∙◌, ap, ap₂}
 use mathlib.Core.List.{List, [], ◌∷◌}
 use mathlib.Core.Bool.{Bool, true, false}
-use lib.IntN.{ℤ, pos}
+use lib.IntN.{pos}
 use Rattle.exact_algebra.specs.Expression.{Expression, var, unit, number, ◌:+◌, ◌:-◌, ◌:*◌, opposite}
 use Rattle.exact_algebra.specs.Ring.{number_value}
 use Rattle.exact_algebra.proofs.Ring.{ring, ring_from, none, given}
-use Rattle.exact_algebra.proofs.Fraction.{Fraction, nought, one, ◌⊕◌, ◌⊗◌, ◌⊖◌, negative, inverse, fractions, fraction_ring}
+use Rattle.exact_algebra.proofs.Fraction.{Fraction, nought, one, ◌⊕◌, ◌⊗◌, ◌⊖◌, fractions, fraction_ring}
 use Rattle.exact_algebra.proofs.Whole.{whole, whole-add, whole-mul, whole-nought, whole-one}
 use Rattle.exact_algebra.proofs.WetForm as Form
-use Rattle.hull_model.specs.WetMean.{Place}
 use Rattle.plane_clip.proofs.WetSum.{N12}
 use Rattle.plane_clip.proofs.TriangleLaws.{by_twelve}
 use Rattle.plane_clip.proofs.MeanKinds.{Kind, share_kind, corner_kind, pair_kind, depth_kind, weighted_kind, first_place, second_place, third_place, value, mean_at, kind_form}

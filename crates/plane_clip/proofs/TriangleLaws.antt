@@ -2,24 +2,24 @@
 -- mean, which are such means.
 use Prim.Native.Nat.{ℕ, zero, suc}
 use native.Mathlib.Omega.{arith}
-use mathlib.Core.Path.{◌≡◌, refl, sym, ◌∙◌, ap, ap₂, subst}
-use mathlib.Core.List.{List, [], ◌∷◌}
+use mathlib.Core.Path.{◌≡◌, refl, sym, ◌∙◌, ap, ap₂}
+use mathlib.Core.List.{[], ◌∷◌}
 use mathlib.Core.Logic.{◌≢◌, ◌⊎◌, inl, inr}
-use mathlib.Core.Bool.{Bool, true, false}
-use lib.IntN.{ℤ, pos}
+use mathlib.Core.Bool.{true, false}
+use lib.IntN.{pos}
 use Rattle.exact_algebra.specs.Expression.{Expression, var, unit, number, ◌:+◌, ◌:-◌, ◌:*◌, opposite}
 use Rattle.exact_algebra.specs.OrderedField.{Sign, below, level, above}
 use Rattle.exact_algebra.proofs.Ring.{ring, ring_from, none, given}
-use Rattle.exact_algebra.proofs.Fraction.{Fraction, nought, one, ◌⊕◌, ◌⊗◌, ◌⊖◌, negative, inverse, sign, fractions, fraction_ring, ◌≼◌}
+use Rattle.exact_algebra.proofs.Fraction.{Fraction, nought, one, ◌⊕◌, ◌⊗◌, ◌⊖◌, inverse, sign, fractions, fraction_ring, ◌≼◌}
 use Rattle.exact_algebra.proofs.Whole.{whole, whole-add, whole-mul, whole-one, positive-whole}
 use Rattle.exact_algebra.proofs.Order as Order
 use Rattle.exact_algebra.proofs.Bounds as Bounds
 use Rattle.exact_algebra.proofs.WetForm as Form
 use Rattle.exact_algebra.proofs.DividedDifference as Over
 use Rattle.hull_model.specs.TriangleCut.{Triangle, triangle}
-use Rattle.hull_model.specs.WetMean.{Place, places, with_depths, share_of, wet_mean, at_corners, linear_mean, product_mean, coordinate}
+use Rattle.hull_model.specs.WetMean.{Place, with_depths, share_of, wet_mean, linear_mean, product_mean, coordinate}
 use Rattle.plane_clip.specs.TriangleLaws.{wet_part, between, NoneBelow, NoneAbove, SomeAbove, IsCrossingAt, tip, ObeysLaws}
-use Rattle.plane_clip.proofs.ShareSplits.{share_first, share_middle, share_last, share-whole, share-swapped, share-turned}
+use Rattle.plane_clip.proofs.ShareSplits.{share_first, share_middle, share_last, share-swapped, share-turned}
 use Rattle.plane_clip.proofs.WetSum.{IsLinearOn, N12, valued, form_at, twelve_at, form_first, form_middle, form_last, wet_part-form, wet_mean-form}
 
 pub twelve-twelfth : N12 ⊗ inverse N12 ≡ one

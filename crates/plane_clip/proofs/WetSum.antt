@@ -1,21 +1,20 @@
 -- The sum over the kept pieces of a triangle, of share times mean, is the triangle's share times the closed form: for the mean of the
 -- product of two functions that are linear between points.
-use Prim.Native.Nat.{ℕ, zero, suc}
+use Prim.Native.Nat.{ℕ, suc}
 use native.Mathlib.Omega.{arith}
-use mathlib.Core.Path.{◌≡◌, refl, sym, ◌∙◌, ap, ap₂, subst}
+use mathlib.Core.Path.{◌≡◌, refl, sym, ◌∙◌, ap}
 use mathlib.Core.List.{List, [], ◌∷◌, ◌++◌}
-use mathlib.Core.Logic.{◌≢◌, ◌⊎◌, inl, inr}
+use mathlib.Core.Logic.{◌⊎◌, inl, inr}
 use mathlib.Core.Bool.{Bool, true, false}
 use lib.IntN.{pos}
 use Rattle.std.specs.Prelude.{filter, cond}
 use Rattle.std.proofs.lemmas.List.Elements.{filter-append}
 use Rattle.exact_algebra.specs.Expression.{var, unit, number, ◌:+◌, ◌:-◌, ◌:*◌, opposite}
-use Rattle.exact_algebra.specs.OrderedField.{Sign, below, level, above}
+use Rattle.exact_algebra.specs.OrderedField.{Sign}
 use Rattle.exact_algebra.proofs.Ring.{ring, ring_from, none, given}
-use Rattle.exact_algebra.proofs.Fraction.{Fraction, nought, one, ◌⊕◌, ◌⊗◌, ◌⊖◌, negative, inverse, sign, fractions, fraction_ring, ◌≼◌}
-use Rattle.exact_algebra.proofs.Whole.{whole, positive-whole}
+use Rattle.exact_algebra.proofs.Fraction.{Fraction, nought, one, ◌⊕◌, ◌⊗◌, ◌⊖◌, sign, fractions, fraction_ring}
+use Rattle.exact_algebra.proofs.Whole.{whole}
 use Rattle.exact_algebra.proofs.Order as Order
-use Rattle.exact_algebra.proofs.Bounds as Bounds
 use Rattle.exact_algebra.proofs.WetForm as Form
 use Rattle.exact_algebra.proofs.DividedDifference as Over
 use Rattle.hull_model.specs.Fractions.{interpolated, sum_over}
@@ -24,7 +23,7 @@ use Rattle.hull_model.specs.WetMean.{Place, places, with_depths, share_of, wet_m
 use Rattle.hull_model.proofs.TriangleCut.{IsLinear, pieces_uncut}
 use Rattle.plane_clip.specs.TriangleLaws.{wet_part, between}
 use Rattle.plane_clip.proofs.CutInduction.{NoneBelow, NoneAbove, one_side, inside, crossing_parameter, cut_induction}
-use Rattle.plane_clip.proofs.ShareSplits.{sum_over-append, sum_over-one, sum_over-none, share_first, share_middle, share_last, share-whole, share-swapped, share-turned}
+use Rattle.plane_clip.proofs.ShareSplits.{sum_over-append, sum_over-one, sum_over-none, share_first, share_middle, share_last, share-whole}
 
 pub linear : IsLinear places
 linear t p q = refl

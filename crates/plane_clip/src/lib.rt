@@ -6,6 +6,8 @@ mod laws;
 mod means;
 mod rounding;
 mod shares;
+#[cfg(test)]
+mod tests;
 mod triangle;
 
 pub use laws::wet_means_obey_the_laws;

@@ -45,7 +45,11 @@ pub(crate) fn rest_of(t: u64, up: bool) -> u64
     ensures value { result ≡ rest up t }
     ensures most { result ≤ 2 ^ 40 }
 {
-    if up { ONE - t } else { (ONE - 1).saturating_sub(t) }
+    if up {
+        ONE - t
+    } else {
+        (ONE - 1).saturating_sub(t)
+    }
 }
 
 // a / (a + b) in units of 2^-40, rounded down, by two divisions of one word.

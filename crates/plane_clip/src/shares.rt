@@ -125,7 +125,13 @@ fn tip_by_parts(t: u64, s: u64, up: bool) -> Shares
     requires { (t ≤ 2 ^ 40) × (s ≤ 2 ^ 40) }
     ensures { result ≡ tip_at up t s }
 {
-    tip(bound_of(t, up), bound_of(s, up), rest_of(t, up), rest_of(s, up), up)
+    tip(
+        bound_of(t, up),
+        bound_of(s, up),
+        rest_of(t, up),
+        rest_of(s, up),
+        up,
+    )
 }
 
 /// The means where the first corner may lie alone on its side, with the parts of its edges.

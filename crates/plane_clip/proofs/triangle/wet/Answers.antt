@@ -1,6 +1,5 @@
-use Rattle.std.proofs.Common.{◌≡◌, sym, subst, length, List, [], ◌∷◌, rules}
+use Rattle.std.proofs.Common.{◌≡◌, sym, subst, length, List, rules}
 use lib.ListN.{get_or}
-use Rattle.std.specs.List.{AllByRecursion}
 use Rattle.outward_interval.specs.declared.span.Span.{Span}
 use Rattle.hull_model.specs.WetMean.{wet_share, wet_depth}
 use Rattle.plane_clip.specs.Enclosure.{Encloses, IsNoWider, Each, corner_means, pair_means, weighted_means}

@@ -1,10 +1,9 @@
-use Rattle.std.proofs.Common.{◌≡◌, sym, subst, length, List, [], ◌∷◌, rules}
+use Rattle.std.proofs.Common.{◌≡◌, sym, subst, length, List, rules}
 use lib.ListN.{get_or}
-use Rattle.std.specs.List.{AllByRecursion}
 use Rattle.outward_interval.specs.declared.span.Span.{Span}
-use Rattle.hull_model.specs.WetMean.{wet_share, wet_depth}
-use Rattle.plane_clip.specs.Enclosure.{Encloses, IsNoWider, Each, corner_means, pair_means, weighted_means}
-use Rattle.plane_clip.proofs.FromEnds.{three_spans, share_encloses, share_no_wider, corners_enclose, corners_no_wider, pairs_enclose, pairs_no_wider, depth_encloses, depth_no_wider, weighted_enclose, weighted_no_wider, near_spans}
+use Rattle.hull_model.specs.WetMean.{wet_depth}
+use Rattle.plane_clip.specs.Enclosure.{Encloses, IsNoWider, Each, weighted_means}
+use Rattle.plane_clip.proofs.FromEnds.{three_spans, depth_encloses, depth_no_wider, weighted_enclose, weighted_no_wider, near_spans}
 use Rattle.plane_clip.proofs.triangle.wet_depths.Goals as goal
 
 pub returns-clause-depth : goal.returns-clause-depth
