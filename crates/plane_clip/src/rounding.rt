@@ -23,11 +23,23 @@ pub(crate) fn scaled(x: u64, y: u64, up: bool) -> u64
     if up { floor + 1 } else { floor }
 }
 
-pub(crate) fn quotient_by(n: u64, k: u64, up: bool) -> u64
-    requires { 0 < k }
-    ensures { result ≡ quotient up k n }
+// Divisors are written out, so that each quotient below is a product and a shift.
+pub(crate) fn over_three(n: u64, up: bool) -> u64
+    ensures { result ≡ quotient up 3 n }
 {
-    if up { n.div_ceil(k) } else { n / k }
+    if up { n.div_ceil(3) } else { n / 3 }
+}
+
+pub(crate) fn over_six(n: u64, up: bool) -> u64
+    ensures { result ≡ quotient up 6 n }
+{
+    if up { n.div_ceil(6) } else { n / 6 }
+}
+
+pub(crate) fn over_twelve(n: u64, up: bool) -> u64
+    ensures { result ≡ quotient up 12 n }
+{
+    if up { n.div_ceil(12) } else { n / 12 }
 }
 
 /// A bound of a part that was rounded down.

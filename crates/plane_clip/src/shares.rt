@@ -2,7 +2,7 @@
 ghost use Rattle.std.specs.Prelude.{◌≡◌, ◌+◌, ◌*◌, ◌^◌, ◌≤◌};
 ghost use Rattle.plane_clip.specs.Rounded.{tip_shares, tip_at, tip_ends, rest_ends, shares_by, second_shares, third_shares};
 
-use crate::rounding::{ONE, bound_of, quotient_by, rest_of, scaled};
+use crate::rounding::{ONE, bound_of, over_six, over_three, over_twelve, rest_of, scaled};
 
 /// The share, the means of the coordinate of each corner, and those of the product of two, in units of 2^-40.
 #[derive(Clone, Copy)]
@@ -63,16 +63,16 @@ impl Shares {
         ensures { result ≡ tip_ends up self }
     {
         Shares {
-            share: quotient_by(self.share, 1, up),
-            c0: quotient_by(self.c0, 3, up),
-            c1: quotient_by(self.c1, 3, up),
-            c2: quotient_by(self.c2, 3, up),
-            p00: quotient_by(self.p00, 6, up),
-            p01: quotient_by(self.p01, 12, up),
-            p02: quotient_by(self.p02, 12, up),
-            p11: quotient_by(self.p11, 6, up),
-            p12: quotient_by(self.p12, 12, up),
-            p22: quotient_by(self.p22, 6, up),
+            share: self.share,
+            c0: over_three(self.c0, up),
+            c1: over_three(self.c1, up),
+            c2: over_three(self.c2, up),
+            p00: over_six(self.p00, up),
+            p01: over_twelve(self.p01, up),
+            p02: over_twelve(self.p02, up),
+            p11: over_six(self.p11, up),
+            p12: over_twelve(self.p12, up),
+            p22: over_six(self.p22, up),
         }
     }
 
