@@ -1,8 +1,15 @@
 pub mod Lists
 pub mod Body
+pub mod Nodes
+pub mod Vectors
 pub mod Limits
 pub mod Fractions
 pub mod TriangleCut
+pub mod TetrahedronCut
+pub mod Zipper
+pub mod Tetrahedra
+pub mod Faces
+pub mod Strips
 pub mod Section
 pub mod Stations
 pub mod WetMean

@@ -1,21 +1,32 @@
 //! The body: stations of points, and the facts that every hull keeps.
 #![tactic(auto)]
 
+mod face;
 mod hull;
 mod laws;
+mod node;
 mod opening;
 mod point;
 mod slab;
 mod station;
+mod strip_triangle;
+mod tet;
+mod vector;
 mod water;
+mod zipper;
 
+pub use face::Face;
 pub use hull::Hull;
 pub use laws::nothing_is_left_to_split;
+pub use node::Node;
 pub use opening::Opening;
 pub use point::Point;
 pub use slab::Slab;
 pub use station::{Points, Station};
+pub use strip_triangle::StripTriangle;
+pub use tet::{Tet, six_of, tets_of};
 pub use water::Water;
+pub use zipper::triangles_between;
 
 #[cfg(test)]
 mod tests;

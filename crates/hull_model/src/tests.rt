@@ -1,4 +1,4 @@
-use crate::{Hull, Point, Points, Station};
+use crate::{Hull, Point, Points, Station, six_of, tets_of};
 use std::alloc::{AllocError, Global};
 use std::test::Fail;
 
@@ -59,5 +59,21 @@ fn points_give_their_list_back(rt: HostRuntime) -> Result<(), Fail> {
         points.into_vec().as_slice(),
         [Point { y: 3, z: 4 }].as_slice()
     );
+    Ok(())
+}
+
+const BARGE: &[(i64, i64)] = &[(10000, 0), (10000, 10000)];
+
+#[test]
+fn the_barge_has_24_tetrahedra(rt: HostRuntime) -> Result<(), Fail> {
+    let stations = stations_of(rt.alloc(), &[0, 50000, 100000], BARGE)?;
+    let hull = Hull::of(stations).expect(&rt, "a hull");
+    let tets = tets_of(rt.alloc(), &hull)?;
+    assert_eq!(rt; tets.len(), 24);
+    let mut sum = 0;
+    for t in &tets {
+        sum += six_of(t);
+    }
+    assert_eq!(rt; sum, 120000000000000);
     Ok(())
 }

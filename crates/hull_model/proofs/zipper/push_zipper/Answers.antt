@@ -1,0 +1,7 @@
+use Rattle.std.proofs.Common.{rules, ◌∙◌, sym, map}
+use Rattle.hull_model.specs.Strips.{corners_of}
+use Rattle.hull_model.proofs.Chains.{nothing_left}
+use Rattle.hull_model.proofs.zipper.push_zipper.Goals as goal
+
+pub returns : goal.returns
+returns c = sym (nothing_left _ c.loop-aft_rest.p c.loop-aft_rest.q _ _ c.loop-aft_rest-test.false) ∙ c.loop-aft_rest.invariant.made
