@@ -1,5 +1,5 @@
 -- The zipper, an advance at a time.
-use Rattle.std.proofs.Common.{ℕ, ◌+◌, ◌-◌, ◌<◌, ◌≤◌, ◌≡◌, refl, sym, ◌∙◌, ap, ap₂, List, [], ◌∷◌, ◌++◌, map, length, get_or, take, drop, Bool, true, false, arith, ℤ}
+use Rattle.std.proofs.Common.{◌+◌, ◌-◌, ◌<◌, ◌≤◌, ◌≡◌, refl, ◌∙◌, ap, ap₂, List, [], ◌∷◌, ◌++◌, map, length, get_or, take, drop, Bool, true, false, arith}
 use Rattle.std.proofs.lemmas.List.{append-nil, append_assoc, take_rest}
 use Rattle.std.specs.Prelude.{int_le, if◌then◌else◌}
 use Rattle.std.specs.List.{AllByRecursion}

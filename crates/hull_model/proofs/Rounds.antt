@@ -10,21 +10,21 @@ use Rattle.hull_model.specs.TriangleCut.{Triangle, triangle, Corners, Split, unc
 use Rattle.hull_model.proofs.TriangleCut as Cut
 
 -- 0 for a corner on the line, and 1 for one off it
-abbrev off : Sign → ℕ
+abbrev pub off : Sign → ℕ
 off level = 0
 off below = 1
 off above = 1
 
-off_opposite : (p q : Sign) → are_opposite p q ≡ true → (off p ≡ 1) × (off q ≡ 1)
+pub off_opposite : (p q : Sign) → are_opposite p q ≡ true → (off p ≡ 1) × (off q ≡ 1)
 off_opposite p q e = (grind arith, grind arith)
 
 off_most : (p q r : Sign) → off p + off q + off r ≤ 3
 off_most p q r = grind arith
 
-none_opposite : (p q : Sign) → off p + off q ≤ 0 → are_opposite p q ≡ false
+pub none_opposite : (p q : Sign) → off p + off q ≤ 0 → are_opposite p q ≡ false
 none_opposite p q h = grind arith
 
-append : {A : Type 0} (P : A → Type 0) (xs ys : List A) → AllByRecursion P xs → AllByRecursion P ys → AllByRecursion P (xs ++ ys)
+pub append : {A : Type 0} (P : A → Type 0) (xs ys : List A) → AllByRecursion P xs → AllByRecursion P ys → AllByRecursion P (xs ++ ys)
 append P [] ys h k = k
 append P (x ∷ xs) ys h k = (h.0, append P xs ys h.1 k)
 

@@ -19,7 +19,7 @@ use Rattle.hull_model.specs.Section.{Offset, wet_triangles, area_of, moment_of, 
 use Rattle.hull_model.proofs.Strip.{NonNegative, wet_strip, wet_strip-above, breadth_at}
 use Rattle.hull_model.proofs.Trapezium.{natural, trapezium_area, trapezium_moment, strip_area-below, strip_moment-below, strip_area-cut, strip_moment-cut}
 
-sum_over-append : {A : Type 0} (f : A → Fraction) (xs ys : List A) → sum_over f (xs ++ ys) ≡ sum_over f xs ⊕ sum_over f ys
+pub sum_over-append : {A : Type 0} (f : A → Fraction) (xs ys : List A) → sum_over f (xs ++ ys) ≡ sum_over f xs ⊕ sum_over f ys
 unfolding sum_over
 sum_over-append f [] ys = ring fraction_ring (sum_over f ys ∷ []) (var 0) (number 0 :+ var 0) refl
 sum_over-append f (x ∷ xs) ys = ap (λ s. f x ⊕ s) (sum_over-append f xs ys) ∙ sym (fractions.laws.ring.add_assoc (f x) (sum_over f xs) (sum_over f ys))

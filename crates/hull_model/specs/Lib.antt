@@ -10,6 +10,12 @@ pub mod Zipper
 pub mod Tetrahedra
 pub mod Faces
 pub mod Strips
+pub mod SignedFaces
+pub mod Boundary
+pub mod Waterplane
+pub mod Submerged
+pub mod Lid
+pub mod Worked
 pub mod Section
 pub mod Stations
 pub mod WetMean

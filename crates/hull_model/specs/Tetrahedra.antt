@@ -1,10 +1,10 @@
 -- The body as tetrahedra: three to each strip triangle, and their mirror images.
 use Rattle.std.specs.Prelude.{ℕ, ℤ, List, [], ◌∷◌, ◌++◌, map, unsigned_abs}
-use Rattle.std.specs.List.{flat_map}
+use Rattle.std.specs.List.{flat_map, AllByRecursion}
 use Rattle.hull_model.specs.declared.node.Node.{Node}
 use Rattle.hull_model.specs.declared.tet.Tet.{Tet}
 use Rattle.hull_model.specs.declared.station.Station.{Station}
-use Rattle.hull_model.specs.Nodes.{foot, mirrored}
+use Rattle.hull_model.specs.Nodes.{IsNode, foot, mirrored}
 use Rattle.hull_model.specs.Vectors.{way, cross, dot}
 use Rattle.hull_model.specs.TriangleCut.{Triangle}
 use Rattle.hull_model.specs.TetrahedronCut.{Tetrahedron, tetrahedron, with_corners}
@@ -35,3 +35,7 @@ six_times t = unsigned_abs (turned_six t)
 -- a tetrahedron as the code has it
 abbrev pub tet_of : Tetrahedron Node → Tet
 tet_of t = record { n = t.a ∷ t.b ∷ t.c ∷ t.d ∷ [] }
+
+-- the corners lie within the limits of a node
+abbrev pub IsWithinLimits : Tet → Type 0
+IsWithinLimits t = AllByRecursion IsNode t.n

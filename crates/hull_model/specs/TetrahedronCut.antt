@@ -1,6 +1,6 @@
 -- A tetrahedron cut along the plane of depth 0, on one side of which depths are above 0 and on the other below.
 use Rattle.std.specs.Prelude.{ℕ, zero, suc, Bool, true, false, ◌||◌, List, [], ◌∷◌, ◌++◌, filter}
-use Rattle.exact_algebra.specs.OrderedField.{Sign, below, above}
+use Rattle.exact_algebra.specs.OrderedField.{Sign, below}
 use Rattle.hull_model.specs.TriangleCut.{Corners, are_opposite, is_above, side, crossing}
 
 pub record Tetrahedron (C : Type 0) : Type 0 where

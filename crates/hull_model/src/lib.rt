@@ -17,7 +17,7 @@ mod zipper;
 
 pub use face::Face;
 pub use hull::Hull;
-pub use laws::nothing_is_left_to_split;
+pub use laws::{no_edge_is_left_to_split, nothing_is_left_to_split, worked_values};
 pub use node::Node;
 pub use opening::Opening;
 pub use point::Point;

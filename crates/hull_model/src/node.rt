@@ -55,7 +55,8 @@ impl Node {
     /// The mirror image in the centreplane.
     pub fn mirrored(self) -> Node
         requires { nodes.IsNode self }
-        ensures { result ≡ nodes.mirrored self }
+        ensures same { result ≡ nodes.mirrored self }
+        ensures limits { nodes.IsNode result }
     {
         Node {
             x: self.x,

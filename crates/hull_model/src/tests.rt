@@ -70,9 +70,9 @@ fn the_barge_has_24_tetrahedra(rt: HostRuntime) -> Result<(), Fail> {
     let hull = Hull::of(stations).expect(&rt, "a hull");
     let tets = tets_of(rt.alloc(), &hull)?;
     assert_eq!(rt; tets.len(), 24);
-    let mut sum = 0;
+    let mut sum = 0i128;
     for t in &tets {
-        sum += six_of(t);
+        sum = i128::wrapping_add(sum, six_of(t));
     }
     assert_eq!(rt; sum, 120000000000000);
     Ok(())

@@ -6,7 +6,7 @@ ghost use Rattle.hull_model.specs.Nodes.{IsNode, mirrored};
 ghost use Rattle.hull_model.specs.TriangleCut.{triangle};
 ghost use Rattle.hull_model.specs.TetrahedronCut.{Tetrahedron, with_corners};
 ghost use Rattle.hull_model.specs.Strips.{corners_of};
-ghost use Rattle.hull_model.specs.Tetrahedra.{to_centreplane, hull_tetrahedra, tet_of, six_times};
+ghost use Rattle.hull_model.specs.Tetrahedra.{to_centreplane, hull_tetrahedra, tet_of, six_times, IsWithinLimits};
 
 use crate::vector::Vector;
 use crate::zipper::all_triangles;
@@ -24,7 +24,7 @@ pub struct Tet {
 ///
 /// The condition is that its corners lie within the limits of a [`Node`].
 pub fn six_of(t: &Tet) -> i128
-    requires { AllByRecursion IsNode t.now.n }
+    requires { IsWithinLimits t.now }
     ensures { (s : Tetrahedron Node) → t.now ≡ tet_of s → result ≡ pos (six_times s) }
 {
     let [a, b, c, d] = t.n;
@@ -37,7 +37,8 @@ pub fn six_of(t: &Tet) -> i128
 /// Each strip triangle A, B, C with its feet A', B', C' on the centreplane gives A' B' C' C, A' B' B C and
 /// A' A B C: strip by strip and triangle by triangle, and then the mirror images of all in the same order.
 pub fn tets_of(alloc: Global, hull: &Hull) -> Result<Vec<Tet>, Memory>
-    ensures { IfOk result (λ tets. tets.items ≡ map tet_of (hull_tetrahedra hull.now)) }
+    ensures tets { IfOk result (λ tets. tets.items ≡ map tet_of (hull_tetrahedra hull.now)) }
+    ensures limits { IfOk result (λ tets. AllByRecursion IsWithinLimits tets.items) }
 {
     let triangles = all_triangles(alloc, hull.stations())?;
     let mut tets = Vec::new(alloc);
@@ -47,7 +48,8 @@ pub fn tets_of(alloc: Global, hull: &Hull) -> Result<Vec<Tet>, Memory>
 }
 
 fn push_half(tets: &mut Vec<Tet>, triangles: &[StripTriangle]) -> Result<(), Memory>
-    ensures { OnOk result (tets.new.items ≡ tets.old.items ++ map tet_of (flat_map to_centreplane (map corners_of triangles.now))) }
+    ensures limits { AllByRecursion IsWithinLimits tets.old.items → OnOk result (AllByRecursion IsWithinLimits tets.new.items) }
+    ensures tets { OnOk result (tets.new.items ≡ tets.old.items ++ map tet_of (flat_map to_centreplane (map corners_of triangles.now))) }
 {
     for t in triangles {
         push_three(tets, t.a, t.b, t.c)?;
@@ -56,7 +58,8 @@ fn push_half(tets: &mut Vec<Tet>, triangles: &[StripTriangle]) -> Result<(), Mem
 }
 
 fn push_mirrored(tets: &mut Vec<Tet>, triangles: &[StripTriangle]) -> Result<(), Memory>
-    ensures { OnOk result (tets.new.items ≡ tets.old.items ++ map tet_of (map (with_corners mirrored) (flat_map to_centreplane (map corners_of triangles.now)))) }
+    ensures limits { AllByRecursion IsWithinLimits tets.old.items → OnOk result (AllByRecursion IsWithinLimits tets.new.items) }
+    ensures tets { OnOk result (tets.new.items ≡ tets.old.items ++ map tet_of (map (with_corners mirrored) (flat_map to_centreplane (map corners_of triangles.now)))) }
 {
     for t in triangles {
         push_three(tets, t.a.mirrored(), t.b.mirrored(), t.c.mirrored())?;
@@ -64,8 +67,13 @@ fn push_mirrored(tets: &mut Vec<Tet>, triangles: &[StripTriangle]) -> Result<(),
     Ok(())
 }
 
+#[tactic(auto, using(crate::proofs::Rounds::append))]
 fn push_three(tets: &mut Vec<Tet>, a: Node, b: Node, c: Node) -> Result<(), Memory>
-    ensures { OnOk result (tets.new.items ≡ tets.old.items ++ map tet_of (to_centreplane (triangle a b c))) }
+    requires a { IsNode a }
+    requires b { IsNode b }
+    requires c { IsNode c }
+    ensures limits { AllByRecursion IsWithinLimits tets.old.items → OnOk result (AllByRecursion IsWithinLimits tets.new.items) }
+    ensures tets { OnOk result (tets.new.items ≡ tets.old.items ++ map tet_of (to_centreplane (triangle a b c))) }
 {
     let (d, e, f) = (a.foot(), b.foot(), c.foot());
     tets.push(Tet { n: [d, e, f, c] })?;

@@ -1,5 +1,4 @@
-use Rattle.std.proofs.Common.{rules, ◌∙◌, sym, map}
-use Rattle.hull_model.specs.Strips.{corners_of}
+use Rattle.std.proofs.Common.{◌∙◌, sym}
 use Rattle.hull_model.proofs.Chains.{nothing_left}
 use Rattle.hull_model.proofs.zipper.push_zipper.Goals as goal
 
