@@ -17,7 +17,7 @@ mod zipper;
 
 pub use face::Face;
 pub use hull::Hull;
-pub use laws::{no_edge_is_left_to_split, nothing_is_left_to_split, worked_values};
+pub use laws::{balanced_lists_have_equal_sums, no_edge_is_left_to_split, nothing_is_left_to_split, worked_values};
 pub use node::Node;
 pub use opening::Opening;
 pub use point::Point;
@@ -25,6 +25,7 @@ pub use slab::Slab;
 pub use station::{Points, Station};
 pub use strip_triangle::StripTriangle;
 pub use tet::{Tet, six_of, tets_of};
+pub use vector::Vector;
 pub use water::Water;
 pub use zipper::triangles_between;
 

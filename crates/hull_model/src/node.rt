@@ -18,7 +18,7 @@ pub struct Node {
 
 impl Node {
     /// The node of a station's point, on the side of positive y.
-    pub(crate) fn starboard(x: i64, point: Point) -> Node
+    pub fn starboard(x: i64, point: Point) -> Node
         requires place { IsWithin (pos 524287) x }
         requires point { IsPoint point }
         ensures same { result ≡ nodes.node_at x point }

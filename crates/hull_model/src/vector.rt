@@ -8,7 +8,7 @@ use crate::Node;
 
 /// The way from one node to another in mm, or a product of two ways in mm².
 #[derive(Clone, Copy, Debug, PartialEq, Eq)]
-pub(crate) struct Vector {
+pub struct Vector {
     pub x: i64,
     pub y: i64,
     pub z: i64,
