@@ -1,0 +1,41 @@
+-- Text cut at a separator.
+use Rattle.std.proofs.Common.{◌≡◌, ℕ, suc, ◌<◌, ◌≤◌, ◌+◌, Bool, true, false, cond, List, [], ◌∷◌, ◌++◌, length, get_or, take, drop, eqb, Option, Some, None, option_map, refl, sym, ap, ◌∙◌, append_assoc}
+use Rattle.std.proofs.lemmas.List.{append-nil}
+use Rattle.std.proofs.Math.Seq.{drop-cons, take-suc}
+use Rattle.std.proofs.Math.ListN.{drop_of_length-le}
+use native.Mathlib.Numerals.{unary_clauses}
+use Rattle.hull_report.specs.Reading.{cut}
+
+-- the byte at a place, behind what stands before it and before what stands after it
+pub drop_one : (bytes : List ℕ) (i : ℕ) → i < length bytes → drop i bytes ≡ get_or bytes i 0 ∷ drop (i + 1) bytes
+drop_one bytes i h = simp unary_clauses (drop-cons bytes i 0 h)
+
+pub take_one : (bytes : List ℕ) (i : ℕ) → i < length bytes → take (i + 1) bytes ≡ take i bytes ++ get_or bytes i 0 ∷ []
+take_one bytes i h = simp unary_clauses (take-suc bytes i 0 h)
+
+-- what is cut from a text that stands behind another
+abbrev pub behind : List ℕ → Option (List ℕ × List ℕ) → Option (List ℕ × List ℕ)
+behind front parts = option_map (λ p. (front ++ p.0, p.1)) parts
+
+-- at each byte
+pub cut_step : (s i : ℕ) (bytes : List ℕ) → i < length bytes → cut s (drop i bytes) ≡ cond (eqb (get_or bytes i 0) s) (Some ([], drop (i + 1) bytes)) (behind (get_or bytes i 0 ∷ []) (cut s (drop (i + 1) bytes)))
+unfolding cut
+cut_step s i bytes h = ap (cut s) (drop_one bytes i h)
+
+pub cut_here : (s i : ℕ) (bytes : List ℕ) (total : Option (List ℕ × List ℕ)) → i < length bytes → eqb (get_or bytes i 0) s ≡ true → behind (take i bytes) (cut s (drop i bytes)) ≡ total → Some (take i bytes, drop (i + 1) bytes) ≡ total
+cut_here s i bytes total h t e =
+    let here : cut s (drop i bytes) ≡ Some ([], drop (i + 1) bytes) = cut_step s i bytes h ∙ ap (λ b. cond b (Some ([], drop (i + 1) bytes)) (behind (get_or bytes i 0 ∷ []) (cut s (drop (i + 1) bytes)))) t in
+    ap (λ front. Some (front, drop (i + 1) bytes)) (sym (append-nil (take i bytes))) ∙ ap (behind (take i bytes)) (sym here) ∙ e
+
+behind_twice : (a b : List ℕ) (parts : Option (List ℕ × List ℕ)) → behind a (behind b parts) ≡ behind (a ++ b) parts
+behind_twice a b None = refl
+behind_twice a b (Some p) = ap (λ front. Some (front, p.1)) (sym (append_assoc a b p.0))
+
+pub cut_on : (s i : ℕ) (bytes : List ℕ) (total : Option (List ℕ × List ℕ)) → i < length bytes → eqb (get_or bytes i 0) s ≡ false → behind (take i bytes) (cut s (drop i bytes)) ≡ total → behind (take (i + 1) bytes) (cut s (drop (i + 1) bytes)) ≡ total
+cut_on s i bytes total h t e =
+    let on : cut s (drop i bytes) ≡ behind (get_or bytes i 0 ∷ []) (cut s (drop (i + 1) bytes)) = cut_step s i bytes h ∙ ap (λ b. cond b (Some ([], drop (i + 1) bytes)) (behind (get_or bytes i 0 ∷ []) (cut s (drop (i + 1) bytes)))) t in
+    ap (λ front. behind front (cut s (drop (i + 1) bytes))) (take_one bytes i h) ∙ sym (behind_twice (take i bytes) (get_or bytes i 0 ∷ []) (cut s (drop (i + 1) bytes))) ∙ ap (behind (take i bytes)) (sym on) ∙ e
+
+pub cut_end : (s i : ℕ) (bytes : List ℕ) (total : Option (List ℕ × List ℕ)) → length bytes ≤ i → behind (take i bytes) (cut s (drop i bytes)) ≡ total → None ≡ total
+unfolding cut
+cut_end s i bytes total h e = ap (λ rest. behind (take i bytes) (cut s rest)) (sym (drop_of_length-le bytes h)) ∙ e

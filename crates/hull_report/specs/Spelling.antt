@@ -1,0 +1,185 @@
+-- The grammar of a report: the words of each line, their text, and what keeps a line in the grammar.
+use Rattle.std.specs.Prelude.{ℕ, ◌<◌, ◌≤◌, ◌^◌, ◌≡◌, ◌≢◌, suc, length, ℤ, Bool, true, false, List, [], ◌∷◌, ◌++◌, Option, Some, None, codes, decimal, nat_lt, ⊤, FitsSigned}
+use Rattle.std.specs.List.{AllByRecursion, list_all}
+use Rattle.std.specs.Fmt.{signed_decimal}
+use Rattle.std.specs.Int.{Width, w64, w128}
+use Rattle.outward_interval.specs.Text.{figure_text}
+use Rattle.outward_interval.specs.declared.figure.Figure.{Figure}
+use Rattle.hull_report.specs.declared.line.Command.{Command}
+use Rattle.hull_report.specs.declared.line.Command.TheVariants as command
+use Rattle.hull_report.specs.declared.line.Finding.{Finding}
+use Rattle.hull_report.specs.declared.line.Finding.TheVariants as finding
+use Rattle.hull_report.specs.declared.line.ShownLine.{ShownLine}
+use Rattle.hull_report.specs.declared.line.ShownLine.TheVariants as shown
+use Rattle.hull_report.specs.declared.line.Call.{Call}
+use Rattle.hull_report.specs.declared.line.Call.TheVariants as call
+use Rattle.hull_report.specs.declared.line.Sides.{Sides}
+use Rattle.hull_report.specs.declared.line.CaseEnd.{CaseEnd}
+use Rattle.hull_report.specs.declared.line.CaseEnd.TheVariants as case
+use Rattle.hull_report.specs.declared.line.SafeBox.{SafeBox}
+use Rattle.hull_report.specs.declared.line.ReasonLine.{ReasonLine}
+use Rattle.hull_report.specs.declared.line.ReasonLine.TheVariants as reason
+use Rattle.hull_report.specs.declared.line.Line.{Line}
+use Rattle.hull_report.specs.declared.line.Line.TheVariants as line
+
+-- A word is a name, a whole number of a type, a criterion, a figure with so many decimals, or stands where a figure is
+-- missing that must be there.
+pub data Word : Type 0 where
+  Name : List ℕ → Word
+  Unsigned : ℕ → ℕ → Word
+  Signed : Width → ℤ → Word
+  Criterion : ℕ → Word
+  Interval : ℕ → Figure → Word
+  Missing : Word
+
+abbrev pub word_text : Word → List ℕ
+word_text (Name name) = name
+word_text (Unsigned bits n) = decimal n
+word_text (Signed width z) = signed_decimal z
+word_text (Criterion n) = codes "C" ++ decimal n
+word_text (Interval places f) = figure_text places f.lo f.hi
+word_text Missing = codes "-"
+
+-- bytes above the space
+abbrev pub is_graphic : List ℕ → Bool
+is_graphic bytes = list_all (λ b. nat_lt 32 b) bytes
+
+-- a word of the grammar: names are without blanks, numbers are within their type, criteria go from 1 to 6
+abbrev pub IsWord : Word → Type 0
+IsWord (Name name) = is_graphic name ≡ true
+IsWord (Unsigned bits n) = n < 2 ^ bits
+IsWord (Signed width z) = FitsSigned width z
+IsWord (Criterion n) = (1 ≤ n) × (n ≤ 6)
+IsWord (Interval places f) = (places ≤ 9) × FitsSigned w128 f.lo × FitsSigned w128 f.hi
+IsWord Missing = ⊥
+
+abbrev pub AreWords : List Word → Type 0
+AreWords words = AllByRecursion IsWord words
+
+abbrev pub u32 : ℕ → Word
+u32 n = Unsigned 32 n
+
+abbrev pub u64 : ℕ → Word
+u64 n = Unsigned 64 n
+
+abbrev pub i64 : ℤ → Word
+i64 z = Signed w64 z
+
+-- a figure with 6 decimals
+abbrev pub figure : Figure → Word
+figure f = Interval 6 f
+
+abbrev pub command_name : Command → List ℕ
+command_name command.Hydro = codes "hydro"
+command_name command.Bonjean = codes "bonjean"
+command_name command.Cross = codes "cross"
+command_name command.Stability = codes "stability"
+command_name command.Damage = codes "damage"
+command_name command.Floodable = codes "floodable"
+command_name command.All = codes "all"
+command_name command.Section = codes "section"
+command_name command.Make = codes "make"
+
+abbrev pub finding_name : Finding → List ℕ
+finding_name finding.Holds = codes "holds"
+finding_name finding.Fails = codes "fails"
+finding_name finding.Unsure = codes "unsure"
+
+-- whether the figure may be absent: VOLUME DISPLACEMENT LCB KB AREA LCF BMT BML KMT TPC MCT
+abbrev pub may_be_absent : List Bool
+may_be_absent = false ∷ false ∷ true ∷ true ∷ false ∷ true ∷ true ∷ true ∷ true ∷ false ∷ true ∷ []
+
+abbrev pub figure_or_absent : Bool → Option Figure → Word
+figure_or_absent may (Some f) = figure f
+figure_or_absent true None = Name (codes "-")
+figure_or_absent false None = Missing
+
+abbrev pub figure_words : List Bool → List (Option Figure) → List Word
+figure_words [] [] = []
+figure_words (may ∷ others) (f ∷ figures) = figure_or_absent may f ∷ figure_words others figures
+figure_words [] (f ∷ figures) = Missing ∷ []
+figure_words (may ∷ others) [] = Missing ∷ []
+
+abbrev pub shown_words : ShownLine → List Word
+shown_words (shown.Interval degree f) = Name (codes "interval") ∷ u32 degree ∷ figure f ∷ []
+shown_words (shown.Pair low high) = Name (codes "pair") ∷ u32 low ∷ u32 high ∷ []
+shown_words (shown.Leak opening degree f) = Name (codes "leak") ∷ u32 opening ∷ u32 degree ∷ figure f ∷ []
+
+abbrev pub call_words : Call → List Word
+call_words call.Pass = Name (codes "pass") ∷ []
+call_words (call.Fail criterion shown) = Name (codes "fail") ∷ Criterion criterion ∷ shown_words shown
+call_words (call.Undecided criterion shown) = Name (codes "undecided") ∷ Criterion criterion ∷ shown_words shown
+
+abbrev pub sides_words : Sides → List Word
+sides_words s = i64 s.a1 ∷ i64 s.a2 ∷ i64 s.f1 ∷ i64 s.f2 ∷ []
+
+abbrev pub end_words : CaseEnd → List Word
+end_words (case.Settled sides) = sides_words sides
+end_words (case.Sinks left) = Name (codes "sinks") ∷ figure left ∷ []
+end_words case.NoStartFore = Name (codes "nostart") ∷ Name (codes "fore") ∷ []
+end_words case.NoStartAft = Name (codes "nostart") ∷ Name (codes "aft") ∷ []
+
+abbrev pub reach_words : Option SafeBox → List Word
+reach_words (Some box) = u32 box.length ∷ sides_words box.sides
+reach_words None = Name (codes "-") ∷ []
+
+abbrev pub reason_words : ReasonLine → List Word
+reason_words (reason.Over station sides) = Name (codes "over") ∷ u32 station ∷ sides_words sides
+reason_words (reason.Touch station sides) = Name (codes "touch") ∷ u32 station ∷ sides_words sides
+reason_words reason.Sinks = Name (codes "sinks") ∷ []
+reason_words reason.NoStart = Name (codes "nostart") ∷ []
+reason_words reason.EndOfShip = Name (codes "endofship") ∷ []
+
+-- the words of each line
+abbrev pub line_words : Line → List Word
+line_words (line.Header command) = Name (codes "hullcert") ∷ Name (codes "1") ∷ Name (command_name command) ∷ []
+line_words (line.Hull stations points) = Name (codes "hull") ∷ u32 stations ∷ u32 points ∷ []
+line_words (line.Body six) = Name (codes "body") ∷ Signed w128 six ∷ []
+line_words (line.Hydro draft figures) = Name (codes "hydro") ∷ u32 draft ∷ figure_words may_be_absent figures
+line_words (line.Section station x draft area moment) = Name (codes "section") ∷ u32 station ∷ u32 x ∷ u32 draft ∷ figure area ∷ Interval 9 moment ∷ []
+line_words (line.Cross mass degree d1 d2 kn) = Name (codes "cross") ∷ u64 mass ∷ u32 degree ∷ i64 d1 ∷ i64 d2 ∷ figure kn ∷ []
+line_words (line.Load mass lcg kg) = Name (codes "load") ∷ u64 mass ∷ figure lcg ∷ figure kg ∷ []
+line_words (line.Upright d1 d2 kb bm gm) = Name (codes "upright") ∷ i64 d1 ∷ i64 d2 ∷ figure kb ∷ figure bm ∷ figure gm ∷ []
+line_words (line.Arm degree d1 d2 gz area) = Name (codes "arm") ∷ u32 degree ∷ i64 d1 ∷ i64 d2 ∷ figure gz ∷ figure area ∷ []
+line_words (line.Mark criterion finding) = Name (codes "mark") ∷ Criterion criterion ∷ Name (finding_name finding) ∷ []
+line_words (line.Verdict call) = Name (codes "verdict") ∷ call_words call
+line_words (line.Damage case end) = Name (codes "damage") ∷ u32 case ∷ end_words end
+line_words (line.Safe centre reach) = Name (codes "safe") ∷ u32 centre ∷ reach_words reach
+line_words (line.Next centre length reason) = Name (codes "next") ∷ u32 centre ∷ u32 length ∷ reason_words reason
+line_words (line.End lines) = Name (codes "end") ∷ u32 lines ∷ []
+
+-- a line of the grammar
+abbrev pub IsLine : Line → Type 0
+IsLine l = AreWords (line_words l)
+
+-- words parted by one space, and the words after the first, each behind its space
+unfoldable pub spaced : List Word → List ℕ
+spaced [] = []
+spaced (w ∷ words) = 32 ∷ word_text w ++ spaced words
+
+unfoldable pub joined : List Word → List ℕ
+joined [] = []
+joined (w ∷ words) = word_text w ++ spaced words
+
+-- the text of a line, ended by a line feed
+abbrev pub line_text : Line → List ℕ
+line_text l = joined (line_words l) ++ codes "\n"
+
+-- the text of lines
+abbrev pub lines_text : List Line → List ℕ
+lines_text [] = []
+lines_text (l ∷ lines) = line_text l ++ lines_text lines
+
+abbrev pub AreLines : List Line → Type 0
+AreLines lines = AllByRecursion IsLine lines
+
+-- n, counted from 1, is the first line that isn't in the grammar: lines come before it, and what comes after them is
+-- something, but doesn't begin with the text of a line
+pub record IsFirstBad (bytes : List ℕ) (n : ℕ) : Type 0 where
+  pub lines : List Line
+  pub good : AreLines lines
+  pub count : n ≡ suc (length lines)
+  pub rest : List ℕ
+  pub parts : bytes ≡ lines_text lines ++ rest
+  pub some : 0 < length rest
+  pub bad : (l : Line) (more : List ℕ) → IsLine l → rest ≢ line_text l ++ more
