@@ -4,7 +4,9 @@ use Rattle.std.proofs.lemmas.List.{append-nil}
 use Rattle.std.proofs.Math.Seq.{drop-cons, take-suc}
 use Rattle.std.proofs.Math.ListN.{drop_of_length-le}
 use native.Mathlib.Numerals.{unary_clauses}
+use Rattle.std.proofs.lemmas.Bool.{eq-eqb}
 use Rattle.hull_report.specs.Reading.{cut}
+use Rattle.hull_report.proofs.Ranges.{Lacks}
 
 -- the byte at a place, behind what stands before it and before what stands after it
 pub drop_one : (bytes : List ℕ) (i : ℕ) → i < length bytes → drop i bytes ≡ get_or bytes i 0 ∷ drop (i + 1) bytes
@@ -39,3 +41,14 @@ cut_on s i bytes total h t e =
 pub cut_end : (s i : ℕ) (bytes : List ℕ) (total : Option (List ℕ × List ℕ)) → length bytes ≤ i → behind (take i bytes) (cut s (drop i bytes)) ≡ total → None ≡ total
 unfolding cut
 cut_end s i bytes total h e = ap (λ rest. behind (take i bytes) (cut s rest)) (sym (drop_of_length-le bytes h)) ∙ e
+
+-- where the separator doesn't stand before it
+pub cut_at : (s : ℕ) (a b : List ℕ) → Lacks s a → cut s (a ++ s ∷ b) ≡ Some (a, b)
+unfolding cut
+cut_at s [] b h = ap (λ t. cond t (Some ([], b)) (behind (s ∷ []) (cut s b))) (eq-eqb s s refl)
+cut_at s (x ∷ a) b h = ap (λ t. cond t (Some ([], a ++ s ∷ b)) (behind (x ∷ []) (cut s (a ++ s ∷ b)))) h.0 ∙ ap (behind (x ∷ [])) (cut_at s a b h.1)
+
+pub cut_none : (s : ℕ) (a : List ℕ) → Lacks s a → cut s a ≡ None
+unfolding cut
+cut_none s [] h = refl
+cut_none s (x ∷ a) h = ap (λ t. cond t (Some ([], a)) (behind (x ∷ []) (cut s a))) h.0 ∙ ap (behind (x ∷ [])) (cut_none s a h.1)

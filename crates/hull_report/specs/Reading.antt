@@ -60,11 +60,12 @@ abbrev pub negative : ℕ → Option ℤ
 negative n = if nat_le n (2 ^ 127) then Some (neg_ℤ (pos n)) else None
 
 -- the number that digits write, behind a minus sign or without one
+abbrev pub signed_by : Option (List ℕ × List ℕ) → List ℕ → Option ℤ
+signed_by (Some parts) text = unsigned parts.1 >>= negative
+signed_by None text = unsigned text >>= positive
+
 unfoldable pub signed : List ℕ → Option ℤ
-signed text = elim (cut 45 text) [
-  | Some parts ↦ unsigned parts.1 >>= negative
-  | None ↦ unsigned text >>= positive
-]
+signed text = signed_by (cut 45 text) text
 
 -- the figure from low to high, where low is at most high
 abbrev pub ordered_if : (low high : ℤ) (b : Bool) → (T b → low ≤ℤ high) → Option Figure
@@ -184,11 +185,16 @@ body_at bytes = do
   six ← i128_at bytes
   Some (line.Body six.0)
 
--- as many figures as places, absent only where they may be
+-- the figure of a place, which may be absent or not
+abbrev pub place_at : Bool → List ℕ → Option (Option Figure × List ℕ)
+place_at true bytes = absent_at bytes
+place_at false bytes = figure_at bytes >>= λ f. Some (Some f.0, f.1)
+
+-- as many figures as places
 unfoldable pub figures_at : List Bool → List ℕ → Option (List (Option Figure) × List ℕ)
 figures_at [] bytes = Some ([], bytes)
 figures_at (may ∷ others) bytes = do
-  f ← if may then absent_at bytes else (figure_at bytes >>= λ f. Some (Some f.0, f.1))
+  f ← place_at may bytes
   figures ← figures_at others f.1
   Some (f.0 ∷ figures.0, figures.1)
 
@@ -266,13 +272,15 @@ leak_at bytes = do
   f ← figure_at degree.1
   Some (shown.Leak opening.0 degree.0 f.0)
 
-unfoldable pub shown_at : List ℕ → Option ShownLine
-shown_at bytes =
-  let name = word_at bytes in
-  if bytes_eq name.0 (codes "interval") then interval_at name.1
-  else if bytes_eq name.0 (codes "pair") then pair_at name.1
-  else if bytes_eq name.0 (codes "leak") then leak_at name.1
+abbrev pub shown_named : List ℕ → List ℕ → Option ShownLine
+shown_named name bytes =
+  if bytes_eq name (codes "interval") then interval_at bytes
+  else if bytes_eq name (codes "pair") then pair_at bytes
+  else if bytes_eq name (codes "leak") then leak_at bytes
   else None
+
+unfoldable pub shown_at : List ℕ → Option ShownLine
+shown_at bytes = shown_named (word_at bytes).0 (word_at bytes).1
 
 unfoldable pub fail_at : List ℕ → Option Call
 fail_at bytes = do
@@ -286,33 +294,41 @@ undecided_at bytes = do
   shown ← shown_at criterion.1
   Some (call.Undecided criterion.0 shown)
 
-unfoldable pub call_at : List ℕ → Option Call
-call_at bytes =
-  let name = word_at bytes in
-  if bytes_eq name.0 (codes "pass") then Some call.Pass
-  else if bytes_eq name.0 (codes "fail") then fail_at name.1
-  else if bytes_eq name.0 (codes "undecided") then undecided_at name.1
+abbrev pub call_named : List ℕ → List ℕ → Option Call
+call_named name bytes =
+  if bytes_eq name (codes "pass") then Some call.Pass
+  else if bytes_eq name (codes "fail") then fail_at bytes
+  else if bytes_eq name (codes "undecided") then undecided_at bytes
   else None
+
+unfoldable pub call_at : List ℕ → Option Call
+call_at bytes = call_named (word_at bytes).0 (word_at bytes).1
 
 unfoldable pub verdict_at : List ℕ → Option Line
 verdict_at bytes = do
   call ← call_at bytes
   Some (line.Verdict call)
 
-unfoldable pub unsettled_at : List ℕ → Option CaseEnd
-unsettled_at bytes =
-  let name = word_at bytes in
-  let side = word_at name.1 in
-  if bytes_eq name.0 (codes "sinks") then (figure_at name.1 >>= λ left. Some (case.Sinks left.0))
-  else if bytes_eq side.0 (codes "fore") then Some case.NoStartFore
-  else if bytes_eq side.0 (codes "aft") then Some case.NoStartAft
+abbrev pub side_named : List ℕ → List ℕ → Option CaseEnd
+side_named name bytes =
+  if bytes_eq name (codes "fore") then Some case.NoStartFore
+  else if bytes_eq name (codes "aft") then Some case.NoStartAft
   else None
 
+abbrev pub unsettled_named : List ℕ → List ℕ → Option CaseEnd
+unsettled_named name bytes =
+  if bytes_eq name (codes "sinks") then (figure_at bytes >>= λ left. Some (case.Sinks left.0))
+  else side_named (word_at bytes).0 (word_at bytes).1
+
+unfoldable pub unsettled_at : List ℕ → Option CaseEnd
+unsettled_at bytes = unsettled_named (word_at bytes).0 (word_at bytes).1
+
+abbrev pub end_by : Option Sides → List ℕ → Option CaseEnd
+end_by (Some sides) bytes = Some (case.Settled sides)
+end_by None bytes = unsettled_at bytes
+
 unfoldable pub end_at : List ℕ → Option CaseEnd
-end_at bytes = elim (sides_at bytes) [
-  | Some sides ↦ Some (case.Settled sides)
-  | None ↦ unsettled_at bytes
-]
+end_at bytes = end_by (sides_at bytes) bytes
 
 unfoldable pub damage_at : List ℕ → Option Line
 damage_at bytes = do
@@ -343,15 +359,17 @@ touch_at bytes = do
   sides ← sides_at station.1
   Some (reason.Touch station.0 sides)
 
-unfoldable pub reason_at : List ℕ → Option ReasonLine
-reason_at bytes =
-  let name = word_at bytes in
-  if bytes_eq name.0 (codes "over") then over_at name.1
-  else if bytes_eq name.0 (codes "touch") then touch_at name.1
-  else if bytes_eq name.0 (codes "sinks") then Some reason.Sinks
-  else if bytes_eq name.0 (codes "nostart") then Some reason.NoStart
-  else if bytes_eq name.0 (codes "endofship") then Some reason.EndOfShip
+abbrev pub reason_named : List ℕ → List ℕ → Option ReasonLine
+reason_named name bytes =
+  if bytes_eq name (codes "over") then over_at bytes
+  else if bytes_eq name (codes "touch") then touch_at bytes
+  else if bytes_eq name (codes "sinks") then Some reason.Sinks
+  else if bytes_eq name (codes "nostart") then Some reason.NoStart
+  else if bytes_eq name (codes "endofship") then Some reason.EndOfShip
   else None
+
+unfoldable pub reason_at : List ℕ → Option ReasonLine
+reason_at bytes = reason_named (word_at bytes).0 (word_at bytes).1
 
 unfoldable pub next_line_at : List ℕ → Option Line
 next_line_at bytes = do

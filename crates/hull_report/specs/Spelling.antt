@@ -2,7 +2,7 @@
 use Rattle.std.specs.Prelude.{ℕ, ◌<◌, ◌≤◌, ◌^◌, ◌≡◌, ◌≢◌, suc, length, ℤ, Bool, true, false, List, [], ◌∷◌, ◌++◌, Option, Some, None, codes, decimal, nat_lt, ⊤, FitsSigned}
 use Rattle.std.specs.List.{AllByRecursion, list_all}
 use Rattle.std.specs.Fmt.{signed_decimal}
-use Rattle.std.specs.Int.{Width, w64, w128}
+use Rattle.std.specs.Int.{w64, w128}
 use Rattle.outward_interval.specs.Text.{figure_text}
 use Rattle.outward_interval.specs.declared.figure.Figure.{Figure}
 use Rattle.hull_report.specs.declared.line.Command.{Command}
@@ -26,16 +26,20 @@ use Rattle.hull_report.specs.declared.line.Line.TheVariants as line
 -- missing that must be there.
 pub data Word : Type 0 where
   Name : List ℕ → Word
-  Unsigned : ℕ → ℕ → Word
-  Signed : Width → ℤ → Word
+  U32 : ℕ → Word
+  U64 : ℕ → Word
+  I64 : ℤ → Word
+  I128 : ℤ → Word
   Criterion : ℕ → Word
   Interval : ℕ → Figure → Word
   Missing : Word
 
 abbrev pub word_text : Word → List ℕ
 word_text (Name name) = name
-word_text (Unsigned bits n) = decimal n
-word_text (Signed width z) = signed_decimal z
+word_text (U32 n) = decimal n
+word_text (U64 n) = decimal n
+word_text (I64 z) = signed_decimal z
+word_text (I128 z) = signed_decimal z
 word_text (Criterion n) = codes "C" ++ decimal n
 word_text (Interval places f) = figure_text places f.lo f.hi
 word_text Missing = codes "-"
@@ -47,23 +51,16 @@ is_graphic bytes = list_all (λ b. nat_lt 32 b) bytes
 -- a word of the grammar: names are without blanks, numbers are within their type, criteria go from 1 to 6
 abbrev pub IsWord : Word → Type 0
 IsWord (Name name) = is_graphic name ≡ true
-IsWord (Unsigned bits n) = n < 2 ^ bits
-IsWord (Signed width z) = FitsSigned width z
+IsWord (U32 n) = n < 2 ^ 32
+IsWord (U64 n) = n < 2 ^ 64
+IsWord (I64 z) = FitsSigned w64 z
+IsWord (I128 z) = FitsSigned w128 z
 IsWord (Criterion n) = (1 ≤ n) × (n ≤ 6)
-IsWord (Interval places f) = (places ≤ 9) × FitsSigned w128 f.lo × FitsSigned w128 f.hi
+IsWord (Interval places f) = FitsSigned w128 f.lo × FitsSigned w128 f.hi
 IsWord Missing = ⊥
 
 abbrev pub AreWords : List Word → Type 0
 AreWords words = AllByRecursion IsWord words
-
-abbrev pub u32 : ℕ → Word
-u32 n = Unsigned 32 n
-
-abbrev pub u64 : ℕ → Word
-u64 n = Unsigned 64 n
-
-abbrev pub i64 : ℤ → Word
-i64 z = Signed w64 z
 
 -- a figure with 6 decimals
 abbrev pub figure : Figure → Word
@@ -101,9 +98,9 @@ figure_words [] (f ∷ figures) = Missing ∷ []
 figure_words (may ∷ others) [] = Missing ∷ []
 
 abbrev pub shown_words : ShownLine → List Word
-shown_words (shown.Interval degree f) = Name (codes "interval") ∷ u32 degree ∷ figure f ∷ []
-shown_words (shown.Pair low high) = Name (codes "pair") ∷ u32 low ∷ u32 high ∷ []
-shown_words (shown.Leak opening degree f) = Name (codes "leak") ∷ u32 opening ∷ u32 degree ∷ figure f ∷ []
+shown_words (shown.Interval degree f) = Name (codes "interval") ∷ U32 degree ∷ figure f ∷ []
+shown_words (shown.Pair low high) = Name (codes "pair") ∷ U32 low ∷ U32 high ∷ []
+shown_words (shown.Leak opening degree f) = Name (codes "leak") ∷ U32 opening ∷ U32 degree ∷ figure f ∷ []
 
 abbrev pub call_words : Call → List Word
 call_words call.Pass = Name (codes "pass") ∷ []
@@ -111,7 +108,7 @@ call_words (call.Fail criterion shown) = Name (codes "fail") ∷ Criterion crite
 call_words (call.Undecided criterion shown) = Name (codes "undecided") ∷ Criterion criterion ∷ shown_words shown
 
 abbrev pub sides_words : Sides → List Word
-sides_words s = i64 s.a1 ∷ i64 s.a2 ∷ i64 s.f1 ∷ i64 s.f2 ∷ []
+sides_words s = I64 s.a1 ∷ I64 s.a2 ∷ I64 s.f1 ∷ I64 s.f2 ∷ []
 
 abbrev pub end_words : CaseEnd → List Word
 end_words (case.Settled sides) = sides_words sides
@@ -120,12 +117,12 @@ end_words case.NoStartFore = Name (codes "nostart") ∷ Name (codes "fore") ∷ 
 end_words case.NoStartAft = Name (codes "nostart") ∷ Name (codes "aft") ∷ []
 
 abbrev pub reach_words : Option SafeBox → List Word
-reach_words (Some box) = u32 box.length ∷ sides_words box.sides
+reach_words (Some box) = U32 box.length ∷ sides_words box.sides
 reach_words None = Name (codes "-") ∷ []
 
 abbrev pub reason_words : ReasonLine → List Word
-reason_words (reason.Over station sides) = Name (codes "over") ∷ u32 station ∷ sides_words sides
-reason_words (reason.Touch station sides) = Name (codes "touch") ∷ u32 station ∷ sides_words sides
+reason_words (reason.Over station sides) = Name (codes "over") ∷ U32 station ∷ sides_words sides
+reason_words (reason.Touch station sides) = Name (codes "touch") ∷ U32 station ∷ sides_words sides
 reason_words reason.Sinks = Name (codes "sinks") ∷ []
 reason_words reason.NoStart = Name (codes "nostart") ∷ []
 reason_words reason.EndOfShip = Name (codes "endofship") ∷ []
@@ -133,20 +130,20 @@ reason_words reason.EndOfShip = Name (codes "endofship") ∷ []
 -- the words of each line
 abbrev pub line_words : Line → List Word
 line_words (line.Header command) = Name (codes "hullcert") ∷ Name (codes "1") ∷ Name (command_name command) ∷ []
-line_words (line.Hull stations points) = Name (codes "hull") ∷ u32 stations ∷ u32 points ∷ []
-line_words (line.Body six) = Name (codes "body") ∷ Signed w128 six ∷ []
-line_words (line.Hydro draft figures) = Name (codes "hydro") ∷ u32 draft ∷ figure_words may_be_absent figures
-line_words (line.Section station x draft area moment) = Name (codes "section") ∷ u32 station ∷ u32 x ∷ u32 draft ∷ figure area ∷ Interval 9 moment ∷ []
-line_words (line.Cross mass degree d1 d2 kn) = Name (codes "cross") ∷ u64 mass ∷ u32 degree ∷ i64 d1 ∷ i64 d2 ∷ figure kn ∷ []
-line_words (line.Load mass lcg kg) = Name (codes "load") ∷ u64 mass ∷ figure lcg ∷ figure kg ∷ []
-line_words (line.Upright d1 d2 kb bm gm) = Name (codes "upright") ∷ i64 d1 ∷ i64 d2 ∷ figure kb ∷ figure bm ∷ figure gm ∷ []
-line_words (line.Arm degree d1 d2 gz area) = Name (codes "arm") ∷ u32 degree ∷ i64 d1 ∷ i64 d2 ∷ figure gz ∷ figure area ∷ []
+line_words (line.Hull stations points) = Name (codes "hull") ∷ U32 stations ∷ U32 points ∷ []
+line_words (line.Body six) = Name (codes "body") ∷ I128 six ∷ []
+line_words (line.Hydro draft figures) = Name (codes "hydro") ∷ U32 draft ∷ figure_words may_be_absent figures
+line_words (line.Section station x draft area moment) = Name (codes "section") ∷ U32 station ∷ U32 x ∷ U32 draft ∷ figure area ∷ Interval 9 moment ∷ []
+line_words (line.Cross mass degree d1 d2 kn) = Name (codes "cross") ∷ U64 mass ∷ U32 degree ∷ I64 d1 ∷ I64 d2 ∷ figure kn ∷ []
+line_words (line.Load mass lcg kg) = Name (codes "load") ∷ U64 mass ∷ figure lcg ∷ figure kg ∷ []
+line_words (line.Upright d1 d2 kb bm gm) = Name (codes "upright") ∷ I64 d1 ∷ I64 d2 ∷ figure kb ∷ figure bm ∷ figure gm ∷ []
+line_words (line.Arm degree d1 d2 gz area) = Name (codes "arm") ∷ U32 degree ∷ I64 d1 ∷ I64 d2 ∷ figure gz ∷ figure area ∷ []
 line_words (line.Mark criterion finding) = Name (codes "mark") ∷ Criterion criterion ∷ Name (finding_name finding) ∷ []
 line_words (line.Verdict call) = Name (codes "verdict") ∷ call_words call
-line_words (line.Damage case end) = Name (codes "damage") ∷ u32 case ∷ end_words end
-line_words (line.Safe centre reach) = Name (codes "safe") ∷ u32 centre ∷ reach_words reach
-line_words (line.Next centre length reason) = Name (codes "next") ∷ u32 centre ∷ u32 length ∷ reason_words reason
-line_words (line.End lines) = Name (codes "end") ∷ u32 lines ∷ []
+line_words (line.Damage case end) = Name (codes "damage") ∷ U32 case ∷ end_words end
+line_words (line.Safe centre reach) = Name (codes "safe") ∷ U32 centre ∷ reach_words reach
+line_words (line.Next centre length reason) = Name (codes "next") ∷ U32 centre ∷ U32 length ∷ reason_words reason
+line_words (line.End lines) = Name (codes "end") ∷ U32 lines ∷ []
 
 -- a line of the grammar
 abbrev pub IsLine : Line → Type 0
