@@ -6,3 +6,4 @@ pub mod Hydro
 pub mod Numbers
 pub mod WordTexts
 pub mod LineTexts
+pub mod Texts

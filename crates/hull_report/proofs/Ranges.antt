@@ -97,3 +97,7 @@ figure_above places low high l h =
     let opened : Above (codes "[" ++ end_text places low) = (omega arith, from) in
     let parted = above_append (codes "[" ++ end_text places low) (codes ",") opened (omega arith, tt) in
     above_append (((codes "[" ++ end_text places low) ++ codes ",") ++ end_text places high) (codes "]") (above_append ((codes "[" ++ end_text places low) ++ codes ",") (end_text places high) parted to) (omega arith, tt)
+
+pub lacks_append : (s : ℕ) (a b : List ℕ) → Lacks s a → Lacks s b → Lacks s (a ++ b)
+lacks_append s [] b h k = k
+lacks_append s (x ∷ a) b h k = (h.0, lacks_append s a b h.1 k)

@@ -169,14 +169,3 @@ lines_text (l ∷ lines) = line_text l ++ lines_text lines
 
 abbrev pub AreLines : List Line → Type 0
 AreLines lines = AllByRecursion IsLine lines
-
--- n, counted from 1, is the first line that isn't in the grammar: lines come before it, and what comes after them is
--- something, but doesn't begin with the text of a line
-pub record IsFirstBad (bytes : List ℕ) (n : ℕ) : Type 0 where
-  pub lines : List Line
-  pub good : AreLines lines
-  pub count : n ≡ suc (length lines)
-  pub rest : List ℕ
-  pub parts : bytes ≡ lines_text lines ++ rest
-  pub some : 0 < length rest
-  pub bad : (l : Line) (more : List ℕ) → IsLine l → rest ≢ line_text l ++ more

@@ -4,6 +4,7 @@
 mod fields;
 mod line;
 mod outcomes;
+mod reading;
 mod spelled;
 mod spelled_outcomes;
 mod word;
@@ -13,4 +14,5 @@ mod writing;
 pub use line::{
     Call, CaseEnd, Command, Finding, Line, ReadBack, ReasonLine, SafeBox, ShownLine, Sides,
 };
+pub use reading::lines_of;
 pub use writing::text_of;
