@@ -16,3 +16,6 @@ pub use line::{
 };
 pub use reading::lines_of;
 pub use writing::text_of;
+
+#[cfg(test)]
+mod tests;
