@@ -4,7 +4,7 @@ use Rattle.std.proofs.lemmas.List.{append-nil}
 use Rattle.std.proofs.Math.Seq.{drop-cons, take-suc}
 use Rattle.std.proofs.Math.ListN.{drop_of_length-le}
 use native.Mathlib.Numerals.{unary_clauses}
-use Rattle.std.proofs.lemmas.Bool.{eq-eqb}
+use Rattle.std.proofs.lemmas.Bool.{eq-eqb, eqb-true}
 use Rattle.hull_report.specs.Reading.{cut}
 use Rattle.hull_report.proofs.Ranges.{Lacks}
 
@@ -52,3 +52,18 @@ pub cut_none : (s : ℕ) (a : List ℕ) → Lacks s a → cut s a ≡ None
 unfolding cut
 cut_none s [] h = refl
 cut_none s (x ∷ a) h = ap (λ t. cond t (Some ([], a)) (behind (x ∷ []) (cut s a))) h.0 ∙ ap (behind (x ∷ [])) (cut_none s a h.1)
+
+-- what is cut is parted by the separator
+some_is : {A : Type 0} (x y : A) → Some x ≡ Some y → x ≡ y
+some_is x y e = cc
+
+parts_behind : (s x : ℕ) (bytes a b : List ℕ) (here : Bool) (later : Option (List ℕ × List ℕ)) → (here ≡ true → x ≡ s) → ((a b : List ℕ) → Some (a, b) ≡ later → bytes ≡ a ++ s ∷ b)
+    → Some (a, b) ≡ cond here (Some ([], bytes)) (behind (x ∷ []) later) → x ∷ bytes ≡ a ++ s ∷ b
+parts_behind s x bytes a b true later same parts e = ap (λ y. y ∷ bytes) (same refl) ∙ sym (ap (λ (p : List ℕ × List ℕ). p.0 ++ s ∷ p.1) (some_is (a, b) ([], bytes) e))
+parts_behind s x bytes a b false None same parts e = absurd cc
+parts_behind s x bytes a b false (Some p) same parts e = ap (λ bytes. x ∷ bytes) (parts p.0 p.1 refl) ∙ sym (ap (λ (p : List ℕ × List ℕ). p.0 ++ s ∷ p.1) (some_is (a, b) (x ∷ p.0, p.1) e))
+
+pub cut_parts : (s : ℕ) (bytes a b : List ℕ) → Some (a, b) ≡ cut s bytes → bytes ≡ a ++ s ∷ b
+unfolding cut
+cut_parts s [] a b e = absurd cc
+cut_parts s (x ∷ bytes) a b e = parts_behind s x bytes a b (eqb x s) (cut s bytes) (eqb-true x s) (λ a b e. cut_parts s bytes a b e) e

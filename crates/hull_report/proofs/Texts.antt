@@ -1,5 +1,5 @@
 -- Texts of lines are read from left to right.
-use Rattle.std.proofs.Common.{◌≡◌, ◌<◌, ◌≤◌, ℕ, suc, ◌+◌, List, [], ◌∷◌, ◌++◌, length, codes, Option, Some, None, refl, Result, Ok, Err, inl, inr, sym, ap, subst, ◌≢◌, ◌∙◌, append_assoc, arith}
+use Rattle.std.proofs.Common.{◌≡◌, ◌<◌, ◌≤◌, ℕ, suc, ◌+◌, Bool, true, false, List, [], ◌∷◌, ◌++◌, length, codes, Option, Some, None, refl, Result, Ok, Err, inl, inr, sym, ap, subst, ◌≢◌, ◌∙◌, append_assoc, arith}
 use Rattle.std.specs.List.{AllByRecursion}
 use Rattle.std.specs.Global.{Vec}
 use Rattle.std.proofs.lemmas.List.{append-nil, length-append}
@@ -10,7 +10,7 @@ use Rattle.hull_report.specs.declared.line.ReadBack.TheVariants as back
 use Rattle.hull_report.specs.Answers.{Begins, IsFirstBad, Answers, IsReadAs, IsBadAt}
 use Rattle.hull_report.specs.Reading.{◌>>=◌, cut, line_at}
 use Rattle.hull_report.proofs.Ranges.{Lacks, lacks_append, above_lacks}
-use Rattle.hull_report.proofs.Cuts.{cut_at}
+use Rattle.hull_report.proofs.Cuts.{cut_at, cut_parts}
 use Rattle.hull_report.proofs.WordTexts.{word_above}
 use Rattle.hull_report.proofs.LineTexts.{line_again}
 
@@ -34,6 +34,9 @@ none_some x e = absurd cc
 same_some : {A : Type 0} (x y : A) → Some x ≡ Some y → x ≡ y
 same_some x y e = cc
 
+pub not_both : (b : Bool) → b ≡ true → b ≡ false → ⊥
+not_both b h k = absurd cc
+
 -- where no line is read, none stands there
 pub no_feed : (bytes : List ℕ) → None ≡ cut 10 bytes → Begins bytes None
 no_feed bytes none l after h e = none_some (joined (line_words l), after) (none ∙ ap (cut 10) e ∙ line_cut l after h)
@@ -46,9 +49,16 @@ pub no_line : (bytes text rest : List ℕ) → Some (text, rest) ≡ cut 10 byte
 no_line bytes text rest parts none l after h e = none_some l (none ∙ text_is bytes text rest l after parts h e)
 
 -- where the line that is read spells another text, none stands there
-pub other_text : (bytes text rest : List ℕ) (m : Line) → Some (text, rest) ≡ cut 10 bytes → Some m ≡ line_at text → ((after : List ℕ) → bytes ≢ line_text m ++ after) → Begins bytes None
+pub other_text : (bytes text rest : List ℕ) (m : Line) → Some (text, rest) ≡ cut 10 bytes → Some m ≡ line_at text → joined (line_words m) ≢ text → Begins bytes None
 other_text bytes text rest m parts read other l after h e =
-    other after (e ∙ ap (λ l. line_text l ++ after) (sym (same_some m l (read ∙ text_is bytes text rest l after parts h e))))
+    let same = same_some m l (read ∙ text_is bytes text rest l after parts h e) in
+    let words = same_some (text, rest) (joined (line_words l), after) (parts ∙ ap (cut 10) e ∙ line_cut l after h) in
+    other (ap (λ l. joined (line_words l)) same ∙ sym (ap (λ (p : List ℕ × List ℕ). p.0) words))
+
+-- where it spells this text, it stands there
+pub this_text : (bytes text rest : List ℕ) (m : Line) → Some (text, rest) ≡ cut 10 bytes → joined (line_words m) ≡ text → bytes ≡ line_text m ++ rest
+this_text bytes text rest m parts same =
+    cut_parts 10 bytes text rest parts ∙ ap (λ t. t ++ 10 ∷ rest) (sym same) ∙ sym (append_assoc (joined (line_words m)) (codes "\n") rest)
 
 -- a line more
 pub lines_more : (lines : List Line) (l : Line) → AreLines lines → IsLine l → AreLines (lines ++ l ∷ [])

@@ -8,7 +8,7 @@ ghost use Rattle.hull_report.specs.Answers.{IsFirstBad, Begins, Answers, IsReadA
 use crate::fields::line_of;
 use crate::line::{Line, ReadBack};
 use crate::word::cut;
-use crate::writing::push_line;
+use crate::writing::push_words;
 use exact_fraction::Memory;
 use std::alloc::Global;
 
@@ -57,16 +57,17 @@ fn all_lines(alloc: Global, bytes: &[u8]) -> Result<Vec<Line>, ReadBack>
 fn first_line(alloc: Global, bytes: &[u8]) -> Result<Option<(Line, &[u8])>, Memory>
     ensures { IfOk result (λ found. Begins bytes.now (option_map (λ p. (p.0, p.1.now)) found)) }
 {
-    let Some((text, _)) = cut(bytes, b'\n') else {
+    let Some((text, after)) = cut(bytes, b'\n') else {
         return Ok(None);
     };
     let Some(line) = line_of(text) else {
         return Ok(None);
     };
     let mut spelled = Vec::new(alloc);
-    push_line(&mut spelled, &line)?;
-    match bytes.strip_prefix(spelled.as_slice()) {
-        Some(after) => Ok(Some((line, after))),
-        None => Ok(None),
+    push_words(&mut spelled, &line)?;
+    if spelled.as_slice() == text {
+        Ok(Some((line, after)))
+    } else {
+        Ok(None)
     }
 }

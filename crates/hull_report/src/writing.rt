@@ -30,8 +30,7 @@ pub fn text_of(alloc: Global, lines: &[Line]) -> Result<Vec<u8>, Memory>
     Ok(text)
 }
 
-/// Appends the text of a line.
-pub(crate) fn push_line(text: &mut Vec<u8>, line: &Line) -> Result<(), Memory>
+fn push_line(text: &mut Vec<u8>, line: &Line) -> Result<(), Memory>
     ensures { OnOk result (text.new.items ≡ text.old.items ++ spelling.line_text line.now) }
 {
     push_words(text, line)?;
@@ -39,8 +38,9 @@ pub(crate) fn push_line(text: &mut Vec<u8>, line: &Line) -> Result<(), Memory>
     Ok(())
 }
 
+/// Appends the words of a line, parted by one space.
 #[tactic(auto, unfolding(crate::specs::Spelling::joined, crate::specs::Spelling::spaced))]
-fn push_words(text: &mut Vec<u8>, line: &Line) -> Result<(), Memory>
+pub(crate) fn push_words(text: &mut Vec<u8>, line: &Line) -> Result<(), Memory>
     ensures { OnOk result (text.new.items ≡ text.old.items ++ spelling.joined (spelling.line_words line.now)) }
 {
     match line {
