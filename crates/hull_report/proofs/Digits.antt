@@ -1,5 +1,5 @@
 -- Numbers that are written by digits.
-use Rattle.std.proofs.Common.{◌≡◌, ◌≤◌, ◌<◌, ℕ, zero, suc, ◌+◌, ◌-◌, ◌*◌, Bool, true, ltb, ◌/◌, ◌%◌, ◌^◌, decimal, List, [], ◌∷◌, ◌++◌, length, get_or, drop, Option, Some, None, refl, sym, ap, ◌∙◌, append_assoc, arith}
+use Rattle.std.proofs.Common.{◌≡◌, ◌≤◌, ◌<◌, ℕ, zero, suc, ◌+◌, ◌-◌, ◌*◌, true, ltb, ◌/◌, ◌%◌, ◌^◌, decimal, List, [], ◌∷◌, ◌++◌, length, get_or, drop, Option, Some, None, refl, ap, ◌∙◌, arith}
 use Rattle.std.proofs.Math.ListN.{drop_of_length-le}
 use Rattle.std.proofs.lemmas.Fmt.{decimal_by_steps_wide}
 use Rattle.std.proofs.lemmas.Bool.{lt-ltb}
@@ -41,8 +41,8 @@ one_digit n d small fits =
 -- the number that decimal n writes
 pub decimal_number : (n : ℕ) → n < 2 ^ 128 → digits_after 0 (decimal n) ≡ Some n
 decimal_number n h = decimal_by_steps_wide (λ n ds. n < 2 ^ 128 → digits_after 0 ds ≡ Some n)
-  (λ n small fits. one_digit 0 n small (omega arith) ∙ ap Some (omega arith))
-  (λ n ds big so_far fits. digits_append 0 ds ((48 + n % 10) ∷ [])
+    (λ n small fits. one_digit 0 n small (omega arith) ∙ ap Some (omega arith))
+    (λ n ds big so_far fits. digits_append 0 ds ((48 + n % 10) ∷ [])
     ∙ ap (λ k. k >>= λ k. digits_after k ((48 + n % 10) ∷ [])) (so_far (omega arith))
     ∙ one_digit (n / 10) (n % 10) (omega arith) (omega arith)
     ∙ ap Some (omega arith)) n (omega arith) h

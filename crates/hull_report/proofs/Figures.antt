@@ -1,5 +1,5 @@
 -- Figures that are read from their text.
-use Rattle.std.proofs.Common.{◌≡◌, ℕ, ℤ, ◌≤ℤ◌, Bool, true, false, T, Option, Some, None, refl, sym, ap, subst, ◌∙◌}
+use Rattle.std.proofs.Common.{◌≡◌, ℤ, ◌≤ℤ◌, Bool, true, false, T, Some, sym, ap, ◌∙◌}
 use Rattle.std.specs.Int.Signed.{le_z, le_z_yes}
 use Rattle.std.proofs.Props.{props}
 use Rattle.outward_interval.specs.declared.figure.Figure.{Figure}

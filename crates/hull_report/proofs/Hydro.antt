@@ -1,10 +1,10 @@
 -- The figures of a hydro line.
-use Rattle.std.proofs.Common.{◌≡◌, ℕ, suc, ◌<◌, ◌≤◌, ◌+◌, Bool, true, false, List, [], ◌∷◌, ◌++◌, length, get_or, drop, Option, Some, None, refl, sym, ap, ◌∙◌}
+use Rattle.std.proofs.Common.{◌≡◌, ℕ, ◌<◌, ◌≤◌, ◌+◌, Bool, true, false, List, [], ◌∷◌, ◌++◌, length, get_or, drop, Option, Some, None, refl, ap, ◌∙◌}
 use Rattle.std.proofs.Math.Seq.{drop-cons}
 use Rattle.std.proofs.Math.ListN.{drop_of_length-le}
 use native.Mathlib.Numerals.{unary_clauses}
 use Rattle.outward_interval.specs.declared.figure.Figure.{Figure}
-use Rattle.hull_report.specs.Spelling.{Word, word_text, spaced, figure_or_absent, figure_words}
+use Rattle.hull_report.specs.Spelling.{word_text, spaced, figure_or_absent, figure_words}
 
 same_text : (may : Bool) (f : Option Figure) → word_text (figure_or_absent may f) ≡ word_text (figure_or_absent true f)
 same_text true f = refl

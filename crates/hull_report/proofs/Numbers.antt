@@ -1,16 +1,13 @@
 -- Whole numbers, ends and figures are read from their texts.
-use Rattle.std.proofs.Common.{◌≡◌, ◌<◌, ◌≤◌, ℕ, zero, suc, ◌+◌, ◌-◌, ◌*◌, ◌/◌, ◌%◌, ◌^◌, Bool, true, ltb, leb, List, [], ◌∷◌, ◌++◌, codes, decimal, ℤ, pos, negsuc, neg_ℤ, Option, Some, None, FitsSigned, inl, inr, refl, sym, ap, ◌∙◌, append_assoc, arith}
+use Rattle.std.proofs.Common.{◌≡◌, ◌<◌, ◌≤◌, ℕ, suc, ◌+◌, ◌-◌, ◌*◌, ◌/◌, ◌%◌, ◌^◌, List, [], ◌∷◌, ◌++◌, codes, decimal, ℤ, pos, negsuc, neg_ℤ, Some, None, FitsSigned, inl, inr, refl, ap, ◌∙◌, append_assoc, arith}
 use Rattle.std.specs.Int.{w64, w128}
 use Rattle.std.specs.Fmt.{signed_decimal}
-use Rattle.std.specs.Int.RustNames.{unsigned_abs}
-use Rattle.std.specs.Option.{unwrap_or}
 use Rattle.std.proofs.lemmas.Bool.{lt-ltb, le-leb}
-use Rattle.std.proofs.lemmas.List.{append-nil}
 use Rattle.std.proofs.lemmas.Nat.{div-add-mod'}
 use Rattle.std.proofs.Math.Nat.{div-le_self, mod-lt, one-le-pow}
-use Rattle.outward_interval.specs.Text.{last_digits, sign, end_text, figure_text}
+use Rattle.outward_interval.specs.Text.{last_digits, end_text, figure_text}
 use Rattle.outward_interval.specs.declared.figure.Figure.{Figure}
-use Rattle.hull_report.specs.Reading.{◌>>=◌, cut, digits_after, unsigned, positive, negative, signed_by, signed, half, within, ordered, figure, criterion}
+use Rattle.hull_report.specs.Reading.{◌>>=◌, cut, digits_after, unsigned, positive, negative, signed_by, signed, half, within, figure, criterion}
 use Rattle.hull_report.proofs.Ranges.{Within, within_append, wider, lacks, decimal_digits, last_digits_digits, end_bytes, abs_small}
 use Rattle.hull_report.proofs.Cuts.{cut_at, cut_none}
 use Rattle.hull_report.proofs.Digits.{decimal_number, decimals_number}
@@ -32,7 +29,7 @@ unsigned_decimals places m h =
     let small : whole < 2 ^ 128 = omega (arith, h, div-le_self m (10 ^ places)) in
     let parts : whole * 10 ^ places + part ≡ m = div-add-mod' m (10 ^ places) in
     let point : cut 46 (decimal whole ++ 46 ∷ last_digits places part) ≡ Some (decimal whole, last_digits places part) =
-        cut_at 46 (decimal whole) (last_digits places part) (lacks 48 58 46 (decimal whole) (inl (omega arith)) (decimal_digits whole (omega (arith, small)))) in
+    cut_at 46 (decimal whole) (last_digits places part) (lacks 48 58 46 (decimal whole) (inl (omega arith)) (decimal_digits whole (omega (arith, small)))) in
     rw (point, decimal_number whole small) (decimals_number places whole part (mod-lt m (one-le-pow places 10 (omega arith))) (rw parts h) ∙ ap Some parts)
 
 signed_plain : (text : List ℕ) (n : ℕ) → Within 46 58 text → unsigned text ≡ Some n → n < 2 ^ 127 → signed text ≡ Some (pos n)
@@ -56,8 +53,8 @@ decimals_bytes places m h =
     let whole = m / 10 ^ places in
     let part = m % 10 ^ places in
     within_append 46 58 (decimal whole) (46 ∷ last_digits places part)
-      (wider 48 58 46 58 (decimal whole) (omega arith) (omega arith) (decimal_digits whole (omega (arith, h, div-le_self m (10 ^ places)))))
-      ((omega arith, omega arith), wider 48 58 46 58 (last_digits places part) (omega arith) (omega arith) (last_digits_digits places part))
+    (wider 48 58 46 58 (decimal whole) (omega arith) (omega arith) (decimal_digits whole (omega (arith, h, div-le_self m (10 ^ places)))))
+    ((omega arith, omega arith), wider 48 58 46 58 (last_digits places part) (omega arith) (omega arith) (last_digits_digits places part))
 
 pub end_is : (places : ℕ) (z : ℤ) → FitsSigned w128 z → signed (end_text places z) ≡ Some z
 end_is places (pos n) f =

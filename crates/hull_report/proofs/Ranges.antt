@@ -1,6 +1,6 @@
 -- Bytes within a range, and separators that don't stand among them.
-use Rattle.std.proofs.Common.{◌≡◌, ◌<◌, ◌≤◌, ℕ, ◌+◌, ◌/◌, ◌%◌, ◌^◌, zero, suc, Bool, true, false, ◌&&◌, ltb, eqb, List, [], ◌∷◌, ◌++◌, codes, decimal, ℤ, pos, negsuc, FitsSigned, ◌⊎◌, inl, inr, refl, sym, ap, arith}
-use Rattle.std.specs.List.{AllByRecursion, list_all}
+use Rattle.std.proofs.Common.{◌≡◌, ◌<◌, ◌≤◌, ℕ, ◌+◌, ◌/◌, ◌%◌, ◌^◌, zero, suc, Bool, true, false, ◌&&◌, ltb, eqb, List, [], ◌∷◌, ◌++◌, codes, decimal, ℤ, pos, negsuc, FitsSigned, ◌⊎◌, inl, inr, refl, arith}
+use Rattle.std.specs.List.{AllByRecursion}
 use Rattle.std.specs.Int.{w128}
 use Rattle.std.specs.Fmt.{signed_decimal}
 use Rattle.std.specs.Int.RustNames.{unsigned_abs}
@@ -60,8 +60,8 @@ above_lacks s (x ∷ bytes) l h = (ne_eqb x s (λ e. omega (arith, h.0, e)), abo
 -- digits
 pub decimal_digits : (n : ℕ) → n < 10 ^ 64 → Within 48 58 (decimal n)
 decimal_digits n h = decimal_by_steps_wide (λ n ds. Within 48 58 ds)
-  (λ n small. ((omega arith, omega arith), tt))
-  (λ n ds big so_far. within_append 48 58 ds ((48 + n % 10) ∷ []) so_far ((omega arith, omega arith), tt)) n h
+    (λ n small. ((omega arith, omega arith), tt))
+    (λ n ds big so_far. within_append 48 58 ds ((48 + n % 10) ∷ []) so_far ((omega arith, omega arith), tt)) n h
 
 pub last_digits_digits : (k n : ℕ) → Within 48 58 (last_digits k n)
 last_digits_digits zero n = tt
@@ -83,8 +83,8 @@ end_bytes places z h =
     let whole : Within 45 58 (decimal (m / 10 ^ places)) = wider 48 58 45 58 (decimal (m / 10 ^ places)) (omega arith) (omega arith) (decimal_digits (m / 10 ^ places) (omega (arith, h, div-le_self m (10 ^ places)))) in
     let decimals : Within 45 58 (last_digits places (m % 10 ^ places)) = wider 48 58 45 58 (last_digits places (m % 10 ^ places)) (omega arith) (omega arith) (last_digits_digits places (m % 10 ^ places)) in
     within_append 45 58 ((sign z ++ decimal (m / 10 ^ places)) ++ codes ".") (last_digits places (m % 10 ^ places))
-      (within_append 45 58 (sign z ++ decimal (m / 10 ^ places)) (codes ".") (within_append 45 58 (sign z) (decimal (m / 10 ^ places)) (sign_bytes z) whole) ((omega arith, omega arith), tt))
-      decimals
+    (within_append 45 58 (sign z ++ decimal (m / 10 ^ places)) (codes ".") (within_append 45 58 (sign z) (decimal (m / 10 ^ places)) (sign_bytes z) whole) ((omega arith, omega arith), tt))
+    decimals
 
 pub abs_small : (z : ℤ) → FitsSigned w128 z → unsigned_abs z < 10 ^ 64
 abs_small (pos n) f = omega (arith, f.sfits)

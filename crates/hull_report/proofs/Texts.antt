@@ -1,6 +1,5 @@
 -- Texts of lines are read from left to right.
-use Rattle.std.proofs.Common.{◌≡◌, ◌<◌, ◌≤◌, ℕ, suc, ◌+◌, Bool, true, false, List, [], ◌∷◌, ◌++◌, length, codes, Option, Some, None, refl, Result, Ok, Err, inl, inr, sym, ap, subst, ◌≢◌, ◌∙◌, append_assoc, arith}
-use Rattle.std.specs.List.{AllByRecursion}
+use Rattle.std.proofs.Common.{◌≡◌, ◌<◌, ◌≤◌, ℕ, suc, ◌+◌, Bool, true, false, List, [], ◌∷◌, ◌++◌, length, codes, Some, None, refl, Result, Ok, Err, inl, inr, sym, ap, subst, ◌≢◌, ◌∙◌, append_assoc, arith}
 use Rattle.std.specs.Global.{Vec}
 use Rattle.std.proofs.lemmas.List.{append-nil, length-append}
 use Rattle.hull_report.specs.declared.line.Line.{Line}
@@ -8,7 +7,8 @@ use Rattle.hull_report.specs.Spelling.{Word, word_text, AreWords, IsLine, AreLin
 use Rattle.hull_report.specs.declared.line.ReadBack.{ReadBack}
 use Rattle.hull_report.specs.declared.line.ReadBack.TheVariants as back
 use Rattle.hull_report.specs.Answers.{Begins, IsFirstBad, Answers, IsReadAs, IsBadAt}
-use Rattle.hull_report.specs.Reading.{◌>>=◌, cut, line_at}
+use Rattle.hull_report.specs.Reading.{cut}
+use Rattle.hull_report.specs.Fields.{line_at}
 use Rattle.hull_report.proofs.Ranges.{Lacks, lacks_append, above_lacks}
 use Rattle.hull_report.proofs.Cuts.{cut_at, cut_parts}
 use Rattle.hull_report.proofs.WordTexts.{word_above}
@@ -127,7 +127,8 @@ pub one_more : (bytes rest after : List ℕ) (lines pushed : List Line) (l : Lin
     AreLines lines → bytes ≡ lines_text lines ++ rest → length lines + length rest ≤ length bytes →
     AreLines pushed × (bytes ≡ lines_text pushed ++ after) × (length pushed + length after ≤ length bytes)
 one_more bytes rest after lines pushed l p h e good parts count =
-    let text : lines_text pushed ≡ lines_text lines ++ line_text l = ap lines_text p ∙ text_more lines l in
-    (subst AreLines (sym p) (lines_more lines l good h),
-     parts ∙ ap (λ t. lines_text lines ++ t) e ∙ sym (append_assoc (lines_text lines) (line_text l) after) ∙ ap (λ t. t ++ after) (sym text),
-     omega (arith, count, ap length p, length-append lines (l ∷ []), ap length e, length-append (line_text l) after, line_length l))
+    let text : lines_text pushed ≡ lines_text lines ++ line_text l = ap lines_text p ∙ text_more lines l in (
+      subst AreLines (sym p) (lines_more lines l good h),
+      parts ∙ ap (λ t. lines_text lines ++ t) e ∙ sym (append_assoc (lines_text lines) (line_text l) after) ∙ ap (λ t. t ++ after) (sym text),
+      omega (arith, count, ap length p, length-append lines (l ∷ []), ap length e, length-append (line_text l) after, line_length l),
+    )

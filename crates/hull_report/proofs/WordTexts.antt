@@ -1,22 +1,18 @@
 -- Each kind of word is read from its text, whatever words follow.
-use Rattle.std.proofs.Common.{◌≡◌, ◌<◌, ◌≤◌, ℕ, Bool, true, false, List, [], ◌∷◌, ◌++◌, codes, decimal, ℤ, Option, Some, None, FitsSigned, inl, inr, refl, sym, ap, ◌∙◌, append_assoc, arith}
-use Rattle.std.specs.Int.{w64, w128}
+use Rattle.std.proofs.Common.{◌≡◌, ℕ, List, [], ◌∷◌, ◌++◌, decimal, ℤ, Option, Some, refl, ap, ◌∙◌, arith}
 use Rattle.std.specs.Fmt.{signed_decimal}
-use Rattle.std.specs.List.{AllByRecursion}
 use Rattle.std.specs.Option.{unwrap_or}
-use Rattle.std.specs.Str.{bytes_eq}
 use Rattle.std.proofs.lemmas.List.{append-nil}
 use Rattle.std.proofs.Math.Facts.{sfits_widen}
-use Rattle.outward_interval.specs.Text.{figure_text}
 use Rattle.outward_interval.specs.declared.figure.Figure.{Figure}
 use Rattle.hull_report.specs.declared.line.Command.{Command}
 use Rattle.hull_report.specs.declared.line.Command.TheVariants as command
 use Rattle.hull_report.specs.declared.line.Finding.{Finding}
 use Rattle.hull_report.specs.declared.line.Finding.TheVariants as finding
-use Rattle.hull_report.specs.Spelling.{Word, Name, U32, U64, I64, I128, Criterion, Interval, Missing, word_text, IsWord, AreWords, figure, command_name, finding_name, spaced, joined}
+use Rattle.hull_report.specs.Spelling.{Word, Name, U32, U64, I64, I128, Criterion, Interval, Missing, word_text, IsWord, figure, command_name, finding_name, spaced, joined}
 use Rattle.hull_report.specs.Reading as reading
 use Rattle.hull_report.specs.Reading.{◌>>=◌, cut, word_at, next_at}
-use Rattle.hull_report.proofs.Ranges.{Above, Lacks, above, above_append, above_lacks, graphic, decimal_digits, signed_bytes, figure_above, abs_small}
+use Rattle.hull_report.proofs.Ranges.{Above, above, above_lacks, graphic, decimal_digits, signed_bytes, figure_above, abs_small}
 use Rattle.hull_report.proofs.Cuts.{cut_at, cut_none}
 use Rattle.hull_report.proofs.Numbers.{unsigned_decimal, signed_decimal_is, figure_is, within_is, half_is, criterion_is}
 
@@ -45,8 +41,10 @@ pub record Again {A : Type 0} (read : List ℕ → Option (A × List ℕ)) (w : 
   pub gives : (words : List Word) → IsWord w → read (joined (w ∷ words)) ≡ Some (x, joined words)
 
 next_again : {A : Type 0} (read : List ℕ → Option A) (w : Word) (x : A) → (IsWord w → read (word_text w) ≡ Some x) → Again (next_at read) w x
-next_again read w x says = record { gives = λ words h.
-    ap (λ (p : List ℕ × List ℕ). read p.0 >>= λ y. Some (y, p.1)) (word_first w words h) ∙ ap (λ y. y >>= λ y. Some (y, joined words)) (says h) }
+next_again read w x says = record {
+  gives = λ words h.
+      ap (λ (p : List ℕ × List ℕ). read p.0 >>= λ y. Some (y, p.1)) (word_first w words h) ∙ ap (λ y. y >>= λ y. Some (y, joined words)) (says h);
+}
 
 pub u32_again : (n : ℕ) → Again reading.u32_at (U32 n) n
 unfolding reading.u32_at

@@ -1,14 +1,14 @@
 // The fields of each line, read from the words behind its name.
 ghost use Rattle.std.specs.Prelude.{◌≡◌, IfSome};
 ghost use Rattle.hull_report.specs.Spelling.{IsLine};
-ghost use Rattle.hull_report.specs.Reading as reading;
+ghost use Rattle.hull_report.specs.Fields as reading;
 
 use crate::line::Line;
 use crate::outcomes::{damage, next, safe, verdict};
 use crate::words::Words;
 
 /// A line whose text may be `text`. It is where the text is a line's: then it is that line.
-#[tactic(auto, unfolding(crate::specs::Reading::line_at))]
+#[tactic(auto, unfolding(crate::specs::Fields::line_at))]
 pub(crate) fn line_of(text: &[u8]) -> Option<Line>
     ensures value { result ≡ reading.line_at text.now }
     ensures fits { IfSome result IsLine }
@@ -18,7 +18,7 @@ pub(crate) fn line_of(text: &[u8]) -> Option<Line>
     fields(name, &mut words)
 }
 
-#[tactic(auto, unfolding(crate::specs::Reading::fields_at))]
+#[tactic(auto, unfolding(crate::specs::Fields::fields_at))]
 fn fields(name: &[u8], words: &mut Words<'_>) -> Option<Line>
     ensures value { result ≡ reading.fields_at name.now words.old.rest.now }
     ensures fits { IfSome result IsLine }
@@ -43,7 +43,7 @@ fn fields(name: &[u8], words: &mut Words<'_>) -> Option<Line>
     }
 }
 
-#[tactic(auto, unfolding(crate::specs::Reading::header_at))]
+#[tactic(auto, unfolding(crate::specs::Fields::header_at))]
 fn header(words: &mut Words<'_>) -> Option<Line>
     ensures value { result ≡ reading.header_at words.old.rest.now }
     ensures fits { IfSome result IsLine }
@@ -54,7 +54,7 @@ fn header(words: &mut Words<'_>) -> Option<Line>
     })
 }
 
-#[tactic(auto, unfolding(crate::specs::Reading::hull_at))]
+#[tactic(auto, unfolding(crate::specs::Fields::hull_at))]
 fn hull(words: &mut Words<'_>) -> Option<Line>
     ensures value { result ≡ reading.hull_at words.old.rest.now }
     ensures fits { IfSome result IsLine }
@@ -65,7 +65,7 @@ fn hull(words: &mut Words<'_>) -> Option<Line>
     })
 }
 
-#[tactic(auto, unfolding(crate::specs::Reading::body_at))]
+#[tactic(auto, unfolding(crate::specs::Fields::body_at))]
 fn body(words: &mut Words<'_>) -> Option<Line>
     ensures value { result ≡ reading.body_at words.old.rest.now }
     ensures fits { IfSome result IsLine }
@@ -73,29 +73,40 @@ fn body(words: &mut Words<'_>) -> Option<Line>
     Some(Line::Body { six: words.i128()? })
 }
 
-#[tactic(auto, unfolding(crate::specs::Reading::hydro_at, crate::specs::Reading::figures_at))]
+#[tactic(auto, unfolding(crate::specs::Fields::hydro_at, crate::specs::Fields::figures_at))]
 fn hydro(words: &mut Words<'_>) -> Option<Line>
     ensures value { result ≡ reading.hydro_at words.old.rest.now }
     ensures fits { IfSome result IsLine }
 {
     let draft = words.u32()?;
+    let volume = Some(words.figure()?);
+    let displacement = Some(words.figure()?);
+    let lcb = words.figure_or_absent()?;
+    let kb = words.figure_or_absent()?;
+    let area = Some(words.figure()?);
+    let lcf = words.figure_or_absent()?;
+    let bmt = words.figure_or_absent()?;
+    let bml = words.figure_or_absent()?;
+    let kmt = words.figure_or_absent()?;
+    let tpc = Some(words.figure()?);
+    let mct = words.figure_or_absent()?;
     let figures = [
-        Some(words.figure()?),
-        Some(words.figure()?),
-        words.figure_or_absent()?,
-        words.figure_or_absent()?,
-        Some(words.figure()?),
-        words.figure_or_absent()?,
-        words.figure_or_absent()?,
-        words.figure_or_absent()?,
-        words.figure_or_absent()?,
-        Some(words.figure()?),
-        words.figure_or_absent()?,
+        volume,
+        displacement,
+        lcb,
+        kb,
+        area,
+        lcf,
+        bmt,
+        bml,
+        kmt,
+        tpc,
+        mct,
     ];
     Some(Line::Hydro { draft, figures })
 }
 
-#[tactic(auto, unfolding(crate::specs::Reading::section_at))]
+#[tactic(auto, unfolding(crate::specs::Fields::section_at))]
 fn section(words: &mut Words<'_>) -> Option<Line>
     ensures value { result ≡ reading.section_at words.old.rest.now }
     ensures fits { IfSome result IsLine }
@@ -109,7 +120,7 @@ fn section(words: &mut Words<'_>) -> Option<Line>
     })
 }
 
-#[tactic(auto, unfolding(crate::specs::Reading::cross_at))]
+#[tactic(auto, unfolding(crate::specs::Fields::cross_at))]
 fn cross(words: &mut Words<'_>) -> Option<Line>
     ensures value { result ≡ reading.cross_at words.old.rest.now }
     ensures fits { IfSome result IsLine }
@@ -123,7 +134,7 @@ fn cross(words: &mut Words<'_>) -> Option<Line>
     })
 }
 
-#[tactic(auto, unfolding(crate::specs::Reading::load_at))]
+#[tactic(auto, unfolding(crate::specs::Fields::load_at))]
 fn load(words: &mut Words<'_>) -> Option<Line>
     ensures value { result ≡ reading.load_at words.old.rest.now }
     ensures fits { IfSome result IsLine }
@@ -135,7 +146,7 @@ fn load(words: &mut Words<'_>) -> Option<Line>
     })
 }
 
-#[tactic(auto, unfolding(crate::specs::Reading::upright_at))]
+#[tactic(auto, unfolding(crate::specs::Fields::upright_at))]
 fn upright(words: &mut Words<'_>) -> Option<Line>
     ensures value { result ≡ reading.upright_at words.old.rest.now }
     ensures fits { IfSome result IsLine }
@@ -149,7 +160,7 @@ fn upright(words: &mut Words<'_>) -> Option<Line>
     })
 }
 
-#[tactic(auto, unfolding(crate::specs::Reading::arm_at))]
+#[tactic(auto, unfolding(crate::specs::Fields::arm_at))]
 fn arm(words: &mut Words<'_>) -> Option<Line>
     ensures value { result ≡ reading.arm_at words.old.rest.now }
     ensures fits { IfSome result IsLine }
@@ -163,7 +174,7 @@ fn arm(words: &mut Words<'_>) -> Option<Line>
     })
 }
 
-#[tactic(auto, unfolding(crate::specs::Reading::mark_at))]
+#[tactic(auto, unfolding(crate::specs::Fields::mark_at))]
 fn mark(words: &mut Words<'_>) -> Option<Line>
     ensures value { result ≡ reading.mark_at words.old.rest.now }
     ensures fits { IfSome result IsLine }
@@ -174,7 +185,7 @@ fn mark(words: &mut Words<'_>) -> Option<Line>
     })
 }
 
-#[tactic(auto, unfolding(crate::specs::Reading::end_line_at))]
+#[tactic(auto, unfolding(crate::specs::Fields::end_line_at))]
 fn end(words: &mut Words<'_>) -> Option<Line>
     ensures value { result ≡ reading.end_line_at words.old.rest.now }
     ensures fits { IfSome result IsLine }

@@ -61,9 +61,19 @@ impl Finding {
 /// Where a criterion was lost or is unsure. Degrees of heel; levers in m, areas in m·rad, with 6 decimals.
 #[derive(Clone, Copy, Debug, PartialEq, Eq)]
 pub enum ShownLine {
-    Interval { degree: u32, figure: Figure },
-    Pair { low: u32, high: u32 },
-    Leak { opening: u32, degree: u32, figure: Figure },
+    Interval {
+        degree: u32,
+        figure: Figure,
+    },
+    Pair {
+        low: u32,
+        high: u32,
+    },
+    Leak {
+        opening: u32,
+        degree: u32,
+        figure: Figure,
+    },
 }
 
 /// The verdict over all criteria. A criterion is a number from 1 to 6.
@@ -115,14 +125,24 @@ pub enum ReasonLine {
 #[derive(Clone, Copy, Debug, PartialEq, Eq)]
 pub enum Line {
     /// The first line.
-    Header { command: Command },
+    Header {
+        command: Command,
+    },
     /// The numbers of stations and of points as kept.
-    Hull { stations: u32, points: u32 },
+    Hull {
+        stations: u32,
+        points: u32,
+    },
     /// Six times the hull's volume in mm³.
-    Body { six: i128 },
+    Body {
+        six: i128,
+    },
     /// A draft in mm, and there VOLUME in m³, DISPLACEMENT in t, LCB and KB in m, AREA in m², LCF, BMT, BML and KMT
     /// in m, TPC in t/cm, MCT in t·m/cm. Absent may be LCB, KB, LCF, BMT, BML, KMT and MCT.
-    Hydro { draft: u32, figures: [Option<Figure>; 11] },
+    Hydro {
+        draft: u32,
+        figures: [Option<Figure>; 11],
+    },
     /// A station from 0, its x and the draft in mm, the area in m² and its moment in m³.
     Section {
         station: u32,
@@ -140,7 +160,11 @@ pub enum Line {
         kn: Figure,
     },
     /// The mass in kg, and the centre of gravity's x and height in m.
-    Load { mass: u64, lcg: Figure, kg: Figure },
+    Load {
+        mass: u64,
+        lcg: Figure,
+        kg: Figure,
+    },
     /// The draft bracket in grid units, and KB, BM and GM in m.
     Upright {
         d1: i64,
@@ -158,13 +182,24 @@ pub enum Line {
         area: Figure,
     },
     /// What was found of a criterion from 1 to 6.
-    Mark { criterion: u32, finding: Finding },
+    Mark {
+        criterion: u32,
+        finding: Finding,
+    },
     /// The verdict over all criteria.
-    Verdict { call: Call },
+    Verdict {
+        call: Call,
+    },
     /// A damage case from 1, and how it ends.
-    Damage { case: u32, end: CaseEnd },
+    Damage {
+        case: u32,
+        end: CaseEnd,
+    },
     /// The greatest safe length about a centre in mm, where there is one.
-    Safe { centre: u32, reach: Option<SafeBox> },
+    Safe {
+        centre: u32,
+        reach: Option<SafeBox>,
+    },
     /// The next length about a centre, both in mm, and why it isn't safe.
     Next {
         centre: u32,
@@ -172,7 +207,9 @@ pub enum Line {
         reason: ReasonLine,
     },
     /// The number of lines, this one among them.
-    End { lines: u32 },
+    End {
+        lines: u32,
+    },
 }
 
 /// Why bytes have no lines.

@@ -2,12 +2,12 @@
 ghost use Rattle.std.specs.Prelude.{◌≡◌, IfSome};
 ghost use Rattle.hull_report.specs.Spelling as spelling;
 ghost use Rattle.hull_report.specs.Spelling.{IsLine};
-ghost use Rattle.hull_report.specs.Reading as reading;
+ghost use Rattle.hull_report.specs.Fields as reading;
 
 use crate::line::{Call, CaseEnd, Line, ReasonLine, SafeBox, ShownLine};
 use crate::words::Words;
 
-#[tactic(auto, unfolding(crate::specs::Reading::verdict_at))]
+#[tactic(auto, unfolding(crate::specs::Fields::verdict_at))]
 pub(crate) fn verdict(words: &mut Words<'_>) -> Option<Line>
     ensures value { result ≡ reading.verdict_at words.old.rest.now }
     ensures fits { IfSome result IsLine }
@@ -15,7 +15,7 @@ pub(crate) fn verdict(words: &mut Words<'_>) -> Option<Line>
     Some(Line::Verdict { call: call(words)? })
 }
 
-#[tactic(auto, unfolding(crate::specs::Reading::call_at))]
+#[tactic(auto, unfolding(crate::specs::Fields::call_at))]
 fn call(words: &mut Words<'_>) -> Option<Call>
     ensures value { result ≡ reading.call_at words.old.rest.now }
     ensures fits { IfSome result (λ c. spelling.AreWords (spelling.call_words c)) }
@@ -28,7 +28,7 @@ fn call(words: &mut Words<'_>) -> Option<Call>
     }
 }
 
-#[tactic(auto, unfolding(crate::specs::Reading::fail_at))]
+#[tactic(auto, unfolding(crate::specs::Fields::fail_at))]
 fn fail(words: &mut Words<'_>) -> Option<Call>
     ensures value { result ≡ reading.fail_at words.old.rest.now }
     ensures fits { IfSome result (λ c. spelling.AreWords (spelling.call_words c)) }
@@ -39,7 +39,7 @@ fn fail(words: &mut Words<'_>) -> Option<Call>
     })
 }
 
-#[tactic(auto, unfolding(crate::specs::Reading::undecided_at))]
+#[tactic(auto, unfolding(crate::specs::Fields::undecided_at))]
 fn undecided(words: &mut Words<'_>) -> Option<Call>
     ensures value { result ≡ reading.undecided_at words.old.rest.now }
     ensures fits { IfSome result (λ c. spelling.AreWords (spelling.call_words c)) }
@@ -50,7 +50,7 @@ fn undecided(words: &mut Words<'_>) -> Option<Call>
     })
 }
 
-#[tactic(auto, unfolding(crate::specs::Reading::shown_at))]
+#[tactic(auto, unfolding(crate::specs::Fields::shown_at))]
 fn shown(words: &mut Words<'_>) -> Option<ShownLine>
     ensures value { result ≡ reading.shown_at words.old.rest.now }
     ensures fits { IfSome result (λ s. spelling.AreWords (spelling.shown_words s)) }
@@ -63,7 +63,7 @@ fn shown(words: &mut Words<'_>) -> Option<ShownLine>
     }
 }
 
-#[tactic(auto, unfolding(crate::specs::Reading::interval_at))]
+#[tactic(auto, unfolding(crate::specs::Fields::interval_at))]
 fn interval(words: &mut Words<'_>) -> Option<ShownLine>
     ensures value { result ≡ reading.interval_at words.old.rest.now }
     ensures fits { IfSome result (λ s. spelling.AreWords (spelling.shown_words s)) }
@@ -74,7 +74,7 @@ fn interval(words: &mut Words<'_>) -> Option<ShownLine>
     })
 }
 
-#[tactic(auto, unfolding(crate::specs::Reading::pair_at))]
+#[tactic(auto, unfolding(crate::specs::Fields::pair_at))]
 fn pair(words: &mut Words<'_>) -> Option<ShownLine>
     ensures value { result ≡ reading.pair_at words.old.rest.now }
     ensures fits { IfSome result (λ s. spelling.AreWords (spelling.shown_words s)) }
@@ -85,7 +85,7 @@ fn pair(words: &mut Words<'_>) -> Option<ShownLine>
     })
 }
 
-#[tactic(auto, unfolding(crate::specs::Reading::leak_at))]
+#[tactic(auto, unfolding(crate::specs::Fields::leak_at))]
 fn leak(words: &mut Words<'_>) -> Option<ShownLine>
     ensures value { result ≡ reading.leak_at words.old.rest.now }
     ensures fits { IfSome result (λ s. spelling.AreWords (spelling.shown_words s)) }
@@ -97,7 +97,7 @@ fn leak(words: &mut Words<'_>) -> Option<ShownLine>
     })
 }
 
-#[tactic(auto, unfolding(crate::specs::Reading::damage_at))]
+#[tactic(auto, unfolding(crate::specs::Fields::damage_at))]
 pub(crate) fn damage(words: &mut Words<'_>) -> Option<Line>
     ensures value { result ≡ reading.damage_at words.old.rest.now }
     ensures fits { IfSome result IsLine }
@@ -108,7 +108,7 @@ pub(crate) fn damage(words: &mut Words<'_>) -> Option<Line>
     })
 }
 
-#[tactic(auto, unfolding(crate::specs::Reading::end_at))]
+#[tactic(auto, unfolding(crate::specs::Fields::end_at))]
 fn case_end(words: &mut Words<'_>) -> Option<CaseEnd>
     ensures value { result ≡ reading.end_at words.old.rest.now }
     ensures fits { IfSome result (λ e. spelling.AreWords (spelling.end_words e)) }
@@ -120,7 +120,7 @@ fn case_end(words: &mut Words<'_>) -> Option<CaseEnd>
     }
 }
 
-#[tactic(auto, unfolding(crate::specs::Reading::unsettled_at))]
+#[tactic(auto, unfolding(crate::specs::Fields::unsettled_at))]
 fn unsettled(words: &mut Words<'_>) -> Option<CaseEnd>
     ensures value { result ≡ reading.unsettled_at words.old.rest.now }
     ensures fits { IfSome result (λ e. spelling.AreWords (spelling.end_words e)) }
@@ -137,7 +137,7 @@ fn unsettled(words: &mut Words<'_>) -> Option<CaseEnd>
     }
 }
 
-#[tactic(auto, unfolding(crate::specs::Reading::safe_at))]
+#[tactic(auto, unfolding(crate::specs::Fields::safe_at))]
 pub(crate) fn safe(words: &mut Words<'_>) -> Option<Line>
     ensures value { result ≡ reading.safe_at words.old.rest.now }
     ensures fits { IfSome result IsLine }
@@ -148,7 +148,7 @@ pub(crate) fn safe(words: &mut Words<'_>) -> Option<Line>
     })
 }
 
-#[tactic(auto, unfolding(crate::specs::Reading::box_at))]
+#[tactic(auto, unfolding(crate::specs::Fields::box_at))]
 fn reach(words: &mut Words<'_>) -> Option<SafeBox>
     ensures value { result ≡ reading.box_at words.old.rest.now }
     ensures fits { spelling.AreWords (spelling.reach_words result) }
@@ -159,7 +159,7 @@ fn reach(words: &mut Words<'_>) -> Option<SafeBox>
     })
 }
 
-#[tactic(auto, unfolding(crate::specs::Reading::next_line_at))]
+#[tactic(auto, unfolding(crate::specs::Fields::next_line_at))]
 pub(crate) fn next(words: &mut Words<'_>) -> Option<Line>
     ensures value { result ≡ reading.next_line_at words.old.rest.now }
     ensures fits { IfSome result IsLine }
@@ -171,7 +171,7 @@ pub(crate) fn next(words: &mut Words<'_>) -> Option<Line>
     })
 }
 
-#[tactic(auto, unfolding(crate::specs::Reading::reason_at))]
+#[tactic(auto, unfolding(crate::specs::Fields::reason_at))]
 fn reason(words: &mut Words<'_>) -> Option<ReasonLine>
     ensures value { result ≡ reading.reason_at words.old.rest.now }
     ensures fits { IfSome result (λ r. spelling.AreWords (spelling.reason_words r)) }
@@ -186,7 +186,7 @@ fn reason(words: &mut Words<'_>) -> Option<ReasonLine>
     }
 }
 
-#[tactic(auto, unfolding(crate::specs::Reading::over_at))]
+#[tactic(auto, unfolding(crate::specs::Fields::over_at))]
 fn over(words: &mut Words<'_>) -> Option<ReasonLine>
     ensures value { result ≡ reading.over_at words.old.rest.now }
     ensures fits { IfSome result (λ r. spelling.AreWords (spelling.reason_words r)) }
@@ -197,7 +197,7 @@ fn over(words: &mut Words<'_>) -> Option<ReasonLine>
     })
 }
 
-#[tactic(auto, unfolding(crate::specs::Reading::touch_at))]
+#[tactic(auto, unfolding(crate::specs::Fields::touch_at))]
 fn touch(words: &mut Words<'_>) -> Option<ReasonLine>
     ensures value { result ≡ reading.touch_at words.old.rest.now }
     ensures fits { IfSome result (λ r. spelling.AreWords (spelling.reason_words r)) }

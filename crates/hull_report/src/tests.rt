@@ -1,5 +1,6 @@
 // Texts of lines, and the lines of texts.
 use crate::{Command, Line, lines_of, text_of};
+use exact_fraction::Memory;
 use outward_interval::Figure;
 use std::alloc::Global;
 use std::test::Fail;
@@ -25,6 +26,50 @@ fn both_ways(alloc: Global, text: &[u8]) -> Result<Vec<Line>, &'static str> {
         Ok(again) if again.as_slice() == text => Ok(lines),
         _ => Err("the lines have another text"),
     }
+}
+
+// The text of a section's report.
+fn section_text(
+    alloc: Global,
+    hull: (u32, u32),
+    place: (u32, u32, u32),
+    area: Figure,
+    moment: Figure,
+) -> Result<Vec<u8>, Memory> {
+    let lines = [
+        Line::Header {
+            command: Command::Section,
+        },
+        Line::Hull {
+            stations: hull.0,
+            points: hull.1,
+        },
+        Line::Section {
+            station: place.0,
+            x: place.1,
+            draft: place.2,
+            area,
+            moment,
+        },
+        Line::End { lines: 4 },
+    ];
+    text_of(alloc, &lines)
+}
+
+#[test]
+fn four_lines_make_the_report_of_a_section(rt: HostRuntime) -> Result<(), Fail> {
+    let area = Figure {
+        lo: 100_000_000,
+        hi: 100_000_000,
+    };
+    let moment = Figure {
+        lo: 250_000_000_000,
+        hi: 250_000_000_000,
+    };
+    let text = section_text(rt.alloc(), (3, 6), (1, 50_000, 5000), area, moment);
+    let text = text.ok().ok_or("memory was refused")?;
+    assert_eq!(rt; text.as_slice(), SECTION.as_bytes());
+    Ok(())
 }
 
 #[test]

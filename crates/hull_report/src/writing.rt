@@ -63,7 +63,13 @@ pub(crate) fn push_words(text: &mut Vec<u8>, line: &Line) -> Result<(), Memory>
             push_u32(text, *draft)?;
             push_figures(text, figures)
         }
-        Line::Section { station, x, draft, area, moment } => {
+        Line::Section {
+            station,
+            x,
+            draft,
+            area,
+            moment,
+        } => {
             text.extend_from_slice(b"section")?;
             push_u32(text, *station)?;
             push_u32(text, *x)?;
@@ -71,7 +77,13 @@ pub(crate) fn push_words(text: &mut Vec<u8>, line: &Line) -> Result<(), Memory>
             push_figure(text, *area)?;
             push_decimals(text, *moment, MOMENT_PLACES)
         }
-        Line::Cross { mass, degree, d1, d2, kn } => {
+        Line::Cross {
+            mass,
+            degree,
+            d1,
+            d2,
+            kn,
+        } => {
             text.extend_from_slice(b"cross")?;
             push_u64(text, *mass)?;
             push_u32(text, *degree)?;
@@ -93,7 +105,13 @@ pub(crate) fn push_words(text: &mut Vec<u8>, line: &Line) -> Result<(), Memory>
             push_figure(text, *bm)?;
             push_figure(text, *gm)
         }
-        Line::Arm { degree, d1, d2, gz, area } => {
+        Line::Arm {
+            degree,
+            d1,
+            d2,
+            gz,
+            area,
+        } => {
             text.extend_from_slice(b"arm")?;
             push_u32(text, *degree)?;
             push_i64(text, d1)?;
@@ -120,7 +138,11 @@ pub(crate) fn push_words(text: &mut Vec<u8>, line: &Line) -> Result<(), Memory>
             push_u32(text, *centre)?;
             push_reach(text, reach)
         }
-        Line::Next { centre, length, reason } => {
+        Line::Next {
+            centre,
+            length,
+            reason,
+        } => {
             text.extend_from_slice(b"next")?;
             push_u32(text, *centre)?;
             push_u32(text, *length)?;
@@ -130,6 +152,5 @@ pub(crate) fn push_words(text: &mut Vec<u8>, line: &Line) -> Result<(), Memory>
             text.extend_from_slice(b"end")?;
             push_u32(text, *lines)
         }
-
     }
 }

@@ -127,7 +127,10 @@ fn lines_of_tables_have_these_fields(rt: HostRuntime) -> Result<(), Fail> {
             },
         ),
     ] {
-        assert_eq!(rt; both_ways(rt.alloc(), &with_figures(rt.alloc(), text)?)?.as_slice(), [line].as_slice());
+        assert_eq!(rt;
+            both_ways(rt.alloc(), &with_figures(rt.alloc(), text)?)?.as_slice(),
+            [line].as_slice()
+        );
     }
     Ok(())
 }
@@ -178,7 +181,10 @@ fn lines_of_criteria_have_these_fields(rt: HostRuntime) -> Result<(), Fail> {
             },
         ),
     ] {
-        assert_eq!(rt; both_ways(rt.alloc(), &with_figures(rt.alloc(), text)?)?.as_slice(), [line].as_slice());
+        assert_eq!(rt;
+            both_ways(rt.alloc(), &with_figures(rt.alloc(), text)?)?.as_slice(),
+            [line].as_slice()
+        );
     }
     Ok(())
 }
@@ -262,7 +268,10 @@ fn lines_of_damage_and_lengths_have_these_fields(rt: HostRuntime) -> Result<(), 
             },
         ),
     ] {
-        assert_eq!(rt; both_ways(rt.alloc(), &with_figures(rt.alloc(), text)?)?.as_slice(), [line].as_slice());
+        assert_eq!(rt;
+            both_ways(rt.alloc(), &with_figures(rt.alloc(), text)?)?.as_slice(),
+            [line].as_slice()
+        );
     }
     Ok(())
 }

@@ -122,7 +122,12 @@ fn first_line_outside_the_grammar_is_named(rt: HostRuntime) -> Result<(), Fail> 
             text.push(if *byte == b'/' { b'\n' } else { *byte })?;
         }
         assert!(rt; text.len() < 1_000_000);
-        assert_eq!(rt; lines_of(rt.alloc(), &text), Err(ReadBack::Bad { line }), "{}", row);
+        assert_eq!(rt;
+            lines_of(rt.alloc(), &text),
+            Err(ReadBack::Bad { line }),
+            "{}",
+            row
+        );
     }
     Ok(())
 }

@@ -23,4 +23,4 @@ returns c =
     let unequal = (slice_eq-Decides Decides-eqb c.as_slice.result.now c.in-Some.text.now c.eq.result c.eq.ensures).1 in
     let spelled : c.as_slice.result.now ≡ joined (line_words c.in-Some-line_of.line) = search rules in
     other_text c.args.bytes.now c.in-Some.text.now c.in-Some.after.now c.in-Some-line_of.line c.in-Some.ensures c.in-Some-line_of.ensures.value
-      (λ e. not_both c.eq.result (unequal (spelled ∙ e)) c.if-eq.false)
+    (λ e. not_both c.eq.result (unequal (spelled ∙ e)) c.if-eq.false)

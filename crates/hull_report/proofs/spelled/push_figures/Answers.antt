@@ -1,4 +1,4 @@
-use Rattle.std.proofs.Common.{◌≡◌, ◌∷◌, ◌++◌, ◌+◌, true, drop, rules, append_assoc, sym, ap, ◌∙◌, arith}
+use Rattle.std.proofs.Common.{◌∷◌, ◌++◌, ◌+◌, true, drop, append_assoc, sym, ap, ◌∙◌, arith}
 use Rattle.std.proofs.lemmas.List.{append-nil}
 use Rattle.hull_report.specs.Spelling.{spaced, figure_words, figure_or_absent, word_text, may_be_absent}
 use Rattle.hull_report.proofs.Hydro.{next_figure, no_figure}

@@ -1,4 +1,4 @@
-use Rattle.std.proofs.Common.{rules, ◌≡◌, ◌∙◌, sym, ap, Option, Some, None, length, drop, get_or, ◌+◌}
+use Rattle.std.proofs.Common.{◌≡◌, ◌∙◌, sym, ap, Some, None, drop, get_or, ◌+◌}
 use Rattle.hull_report.specs.Reading.{◌>>=◌, digits_after, digit_after}
 use Rattle.hull_report.proofs.Digits.{digits_step, digits_end}
 use Rattle.hull_report.proofs.word.digits_after.Goals as goal

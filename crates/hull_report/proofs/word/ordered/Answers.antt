@@ -1,4 +1,3 @@
-use Rattle.std.proofs.Common.{rules}
 use Rattle.std.proofs.Math.Facts.{to_z-of_z}
 use Rattle.hull_report.proofs.Figures.{is_ordered}
 use Rattle.hull_report.proofs.word.ordered.Goals as goal
