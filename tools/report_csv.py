@@ -3,10 +3,10 @@
 
     tools/report_csv.py REPORT [--table NAME] [--out FOLDER]
 
-A table has one row for each line of its name: hydro, section, cross, arm, mark, damage, safe, next. Each figure takes
-two columns, its low and its high end, as printed; an absent figure leaves both empty. With --out each table that has
-rows is written to FOLDER/NAME.csv; otherwise one table (--table, or the only one that has rows) goes to the output.
-Ends with 1 and the number of the line where a line is outside the grammar.
+A table has one row for each line of its name: hydro, section, cross, load, upright, arm, mark, damage, safe, next. Each
+figure takes two columns, its low and its high end, as printed; an absent figure leaves both empty. With --out each
+table that has rows is written to FOLDER/NAME.csv; otherwise one table (--table, or the only one that has rows) goes to
+the output. Ends with 1 and the number of the line where a line is outside the grammar.
 """
 
 import argparse
@@ -31,6 +31,8 @@ HEADS = {
     "hydro": ["draft_mm"] + [end for name in HYDRO for end in both(name)],
     "section": ["station", "x_mm", "draft_mm", *both("area_m2"), *both("moment_m3")],
     "cross": ["mass_kg", "degree", "d1", "d2", *both("kn_m")],
+    "load": ["mass_kg", *both("lcg_m"), *both("kg_m")],
+    "upright": ["d1", "d2", *both("kb_m"), *both("bm_m"), *both("gm_m")],
     "arm": ["degree", "d1", "d2", *both("gz_m"), *both("area_m_rad")],
     "mark": ["criterion", "finding"],
     "damage": ["case", "end", "side", *SIDES, *both("left_m3")],
