@@ -1,10 +1,16 @@
 -- The lines that are written in place of a report.
-use Rattle.std.specs.Prelude.{ℕ, List, ◌++◌, codes}
+use Rattle.std.specs.Prelude.{ℕ, List, ◌++◌, codes, decimal}
 use Rattle.offset_reader.specs.declared.fault.OffsetFault.{OffsetFault}
 use Rattle.offset_reader.specs.declared.fault.OffsetFault.TheVariants.{Columns, Number, Negative, Range, Backwards, Height, FewStations, TooManyStations, FewPoints, TooManyPoints, NoVolume, Memory}
 use Rattle.hull_cli.specs.declared.stop.Refusal.{Refusal}
 use Rattle.hull_cli.specs.declared.stop.Refusal.TheVariants.{Usage, LongOffsets, Offsets, Station}
-use Rattle.hull_cli.specs.Report.{number_text, word_text}
+
+-- a space and a word, or a whole number
+abbrev pub word_text : List ℕ → List ℕ
+word_text word = codes " " ++ word
+
+abbrev pub number_text : ℕ → List ℕ
+number_text n = word_text (decimal n)
 
 -- a word and one number, or two
 abbrev pub place_text : List ℕ → ℕ → List ℕ

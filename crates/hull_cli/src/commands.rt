@@ -9,7 +9,6 @@ ghost use Rattle.hull_cli.specs.Stops.{Stops, StopsOn, StopsSection};
 ghost use Rattle.hull_cli.specs.Words.{Form, form_of, IsDraftWithin};
 
 use crate::reading::read_hull;
-use crate::report::{Command, Line, text_of};
 use crate::status::Status;
 use crate::stop::{Refusal, Stop};
 use crate::words::{Request, request_of};
@@ -17,6 +16,7 @@ use bonjean_curves::section;
 use desk::{Shelf, Sink};
 use exact_fraction::Memory;
 use hull_model::{Hull, Station};
+use hull_report::{Command, Line, text_of};
 use std::alloc::Global;
 
 /// Does what the words say: reads from the shelf, and writes one report, `refused` line or `fault` line to
@@ -42,7 +42,7 @@ pub fn run<S: Shelf, K: Sink>(alloc: Global, words: &[String], shelf: &mut S, ou
 {
     match answer_of(alloc, words, shelf) {
         Ok(answer) => {
-            if put_all(out, answer.text.as_bytes()) {
+            if put_all(out, &answer.text) {
                 answer.status
             } else {
                 Status::WriteFault
@@ -55,14 +55,14 @@ pub fn run<S: Shelf, K: Sink>(alloc: Global, words: &[String], shelf: &mut S, ou
 // What is to be written, and the status that it comes with.
 #[derive(Drop)]
 struct Answer {
-    text: String,
+    text: Vec<u8>,
     status: Status,
 }
 
 fn answer_of<S: Shelf>(alloc: Global, words: &[String], shelf: &mut S) -> Result<Answer, Memory>
     ensures decides { IfOk result (λ a. Decides
         (record { held = S.held shelf.old; faults = S.faults shelf.old; faults_after = S.faults shelf.new; taken = S.taken shelf.old; taken_after = S.taken shelf.new })
-        (map string_bytes words.now) a.status (string_bytes a.text)) }
+        (map string_bytes words.now) a.status a.text.items) }
     ensures same { (n : List ℕ) → S.held shelf.new n ≡ S.held shelf.old n }
     ensures no_fetch { form_of (map string_bytes words.now) ≡ None → shelf.new ≡ shelf.old }
 {
@@ -76,17 +76,17 @@ fn answer_of<S: Shelf>(alloc: Global, words: &[String], shelf: &mut S) -> Result
             status: Status::Refused,
         }),
         Err(Stop::OffsetsUnread) => Ok(Answer {
-            text: String::from_str(alloc, "fault read offsets\n")?,
+            text: Vec::from_slice(alloc, b"fault read offsets\n")?,
             status: Status::ReadFault,
         }),
         Err(Stop::NoMemory) => Err(Memory),
     }
 }
 
-fn report_of<S: Shelf>(alloc: Global, words: &[String], shelf: &mut S) -> Result<String, Stop>
+fn report_of<S: Shelf>(alloc: Global, words: &[String], shelf: &mut S) -> Result<Vec<u8>, Stop>
     ensures reports { IfOk result (λ text. Reports
         (record { held = S.held shelf.old; faults = S.faults shelf.old; faults_after = S.faults shelf.new; taken = S.taken shelf.old; taken_after = S.taken shelf.new })
-        (map string_bytes words.now) (string_bytes text)) }
+        (map string_bytes words.now) text.items) }
     ensures stops { IfErr result (λ stop. Stops
         (record { held = S.held shelf.old; faults = S.faults shelf.old; faults_after = S.faults shelf.new; taken = S.taken shelf.old; taken_after = S.taken shelf.new })
         (map string_bytes words.now) stop) }
@@ -99,11 +99,11 @@ fn report_of<S: Shelf>(alloc: Global, words: &[String], shelf: &mut S) -> Result
     }
 }
 
-fn report_on<S: Shelf>(alloc: Global, request: Request<'_>, shelf: &mut S) -> Result<String, Stop>
+fn report_on<S: Shelf>(alloc: Global, request: Request<'_>, shelf: &mut S) -> Result<Vec<u8>, Stop>
     requires { IsDraftWithin (form_seen request) }
     ensures reports { IfOk result (λ text. ReportsOn
         (record { held = S.held shelf.old; faults = S.faults shelf.old; faults_after = S.faults shelf.new; taken = S.taken shelf.old; taken_after = S.taken shelf.new })
-        (form_seen request.entry) (string_bytes text)) }
+        (form_seen request.entry) text.items) }
     ensures stops { IfErr result (StopsOn
         (record { held = S.held shelf.old; faults = S.faults shelf.old; faults_after = S.faults shelf.new; taken = S.taken shelf.old; taken_after = S.taken shelf.new })
         (form_seen request.entry)) }
@@ -121,9 +121,9 @@ fn report_on<S: Shelf>(alloc: Global, request: Request<'_>, shelf: &mut S) -> Re
     }
 }
 
-fn section_report(alloc: Global, hull: &Hull, station: u32, draft: u32) -> Result<String, Stop>
+fn section_report(alloc: Global, hull: &Hull, station: u32, draft: u32) -> Result<Vec<u8>, Stop>
     requires { draft ≤ 131071 }
-    ensures reports { IfOk result (λ text. IsSectionReport hull.now station draft (string_bytes text)) }
+    ensures reports { IfOk result (λ text. IsSectionReport hull.now station draft text.items) }
     ensures stops { IfErr result (StopsSection hull.now station) }
 {
     let Some(at) = hull.stations().get(station as usize) else {

@@ -3,7 +3,7 @@
 
 mod commands;
 mod reading;
-mod report;
+mod refused;
 mod status;
 mod stop;
 mod words;

@@ -2,7 +2,7 @@
 ghost use Rattle.std.specs.Prelude.{◌≡◌, ◌++◌, IfOk, OnOk, string_bytes};
 ghost use Rattle.hull_cli.specs.Refusals.{place_text, field_text, fault_text};
 
-use crate::report::{push_number, push_word};
+use crate::refused::{push_number, push_word};
 use exact_fraction::Memory;
 use offset_reader::OffsetFault;
 use std::alloc::Global;
@@ -43,13 +43,13 @@ impl Refusal {
     ghost use Rattle.hull_cli.specs.Refusals.{cause_text, refusal_text};
 
     /// The line that is written.
-    pub(crate) fn text(&self, alloc: Global) -> Result<String, Memory>
-        ensures { IfOk result (λ text. string_bytes text ≡ refusal_text self.now) }
+    pub(crate) fn text(&self, alloc: Global) -> Result<Vec<u8>, Memory>
+        ensures { IfOk result (λ text. text.items ≡ refusal_text self.now) }
     {
         let mut text = String::from_str(alloc, "refused")?;
         self.push_cause(&mut text)?;
         text.push_str("\n")?;
-        Ok(text)
+        Ok(text.into_bytes())
     }
 
     fn push_cause(&self, text: &mut String) -> Result<(), Memory>

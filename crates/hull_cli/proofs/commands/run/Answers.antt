@@ -12,5 +12,5 @@ returns-then-put_all-clause-answers g c =
       taken = g.S.Shelf.taken c.args.shelf.now;
       taken_after = g.S.Shelf.taken c.answer_of.new.shelf;
     } in
-    let written = rw c.as_bytes.ensures.value at (c.put_all.ensures.all c.if-put_all.true) in
-    all_written shelves (map string_bytes c.args.words.now) c.in-Ok.answer.status (string_bytes c.in-Ok.answer.text) (g.K.Sink.faults c.args.out.now) (g.K.Sink.faults c.put_all.new.out) (g.K.Sink.taken c.args.out.now) (g.K.Sink.taken c.put_all.new.out) c.in-Ok.ensures.decides written
+    let written = rw c.deref.ensures.value at (c.put_all.ensures.all c.if-put_all.true) in
+    all_written shelves (map string_bytes c.args.words.now) c.in-Ok.answer.status c.in-Ok.answer.text.items (g.K.Sink.faults c.args.out.now) (g.K.Sink.faults c.put_all.new.out) (g.K.Sink.taken c.args.out.now) (g.K.Sink.taken c.put_all.new.out) c.in-Ok.ensures.decides written
