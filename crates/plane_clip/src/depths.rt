@@ -47,6 +47,13 @@ const NO_TIP: Tip = Tip {
     third: 0,
 };
 
+const NO_DEPTHS: Depths = Depths {
+    depth: 0,
+    first: 0,
+    second: 0,
+    third: 0,
+};
+
 // The product of a depth and two parts.
 fn cubed(a: u64, t: u64, s: u64, up: bool) -> u64
     requires depth { a < 2 ^ 41 }
@@ -78,6 +85,7 @@ fn tip_of(a: u64, t: u64, s: u64, up: bool) -> Tip
     }
 }
 
+#[inline(always)]
 fn third_of(whole: i64, tip: u64, up: bool) -> i64
     requires whole { unsigned_abs whole < 2 ^ 46 }
     requires tip { tip < 2 ^ 46 }
@@ -91,6 +99,7 @@ fn third_of(whole: i64, tip: u64, up: bool) -> i64
     }
 }
 
+#[inline(always)]
 fn twelfth_of(whole: i64, tip: u64, up: bool) -> i64
     requires whole { unsigned_abs whole < 2 ^ 46 }
     requires tip { tip < 2 ^ 46 }
@@ -104,6 +113,7 @@ fn twelfth_of(whole: i64, tip: u64, up: bool) -> i64
     }
 }
 
+#[inline(always)]
 fn sum(x: i64, y: i64, z: i64) -> i64
     requires near { Near x × Near y × Near z }
     ensures value { result ≡ sum_of x y z }
@@ -112,6 +122,7 @@ fn sum(x: i64, y: i64, z: i64) -> i64
     x + y + z
 }
 
+#[inline(always)]
 fn plus(sum: i64, x: i64) -> i64
     requires sum { unsigned_abs sum < 2 ^ 43 }
     requires near { Near x }
@@ -122,6 +133,7 @@ fn plus(sum: i64, x: i64) -> i64
 }
 
 // The means that the depths of a whole triangle and a tip make up.
+#[inline(always)]
 fn made_up(x: i64, y: i64, z: i64, tip: Tip, up: bool) -> Depths
     requires near { Near x × Near y × Near z }
     ensures depth { result.depth ≡ quotient_of_sum up 3 (sum_of x y z) tip.depth }
@@ -148,7 +160,7 @@ pub(crate) fn depths_of(x: i64, y: i64, z: i64, t: u64, s: u64, up: bool) -> Dep
     ensures third { result.third ≡ (depths_by up (is_over x) (is_over y) x y z t s).third }
 {
     match (is_under_water(x), is_under_water(y)) {
-        (false, false) => made_up(0, 0, 0, NO_TIP, up),
+        (false, false) => NO_DEPTHS,
         (true, true) => made_up(x, y, z, NO_TIP, up),
         (true, false) => made_up(0, 0, 0, tip_of(x.unsigned_abs(), t, s, up), up),
         (false, true) => made_up(x, y, z, tip_of(x.unsigned_abs(), t, s, up), up),

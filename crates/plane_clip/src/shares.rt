@@ -32,6 +32,33 @@ const NOTHING: Shares = Shares {
     p22: 0,
 };
 
+/// Of the whole triangle, rounded down and up.
+const WHOLE_DOWN: Shares = Shares {
+    share: 1099511627776,
+    c0: 366503875925,
+    c1: 366503875925,
+    c2: 366503875925,
+    p00: 183251937962,
+    p01: 91625968981,
+    p02: 91625968981,
+    p11: 183251937962,
+    p12: 91625968981,
+    p22: 183251937962,
+};
+
+const WHOLE_UP: Shares = Shares {
+    share: 1099511627776,
+    c0: 366503875926,
+    c1: 366503875926,
+    c2: 366503875926,
+    p00: 183251937963,
+    p01: 91625968982,
+    p02: 91625968982,
+    p11: 183251937963,
+    p12: 91625968982,
+    p22: 183251937963,
+};
+
 impl Shares {
     /// With the second corner in the first's place.
     pub(crate) fn second(self) -> Shares
@@ -143,7 +170,7 @@ pub(crate) fn shares_of(first: bool, others: bool, t: u64, s: u64, up: bool) -> 
 {
     match (first, others) {
         (false, false) => NOTHING,
-        (true, true) => NOTHING.beside_tip(up),
+        (true, true) => { if up { WHOLE_UP } else { WHOLE_DOWN } }
         (true, false) => tip_by_parts(t, s, up).over_tip(up),
         (false, true) => tip_by_parts(t, s, !up).beside_tip(up),
     }

@@ -101,6 +101,7 @@ fn wet_depths_of(x: Span<20>, y: Span<20>, z: Span<20>) -> WetDepths
     depth_spans(low, high)
 }
 
+#[inline(always)]
 fn lower(span: Span<20>) -> i64
     requires { EndsBelow 41 span.lo span.hi }
     ensures value { result ≡ span.lo }
@@ -109,6 +110,7 @@ fn lower(span: Span<20>) -> i64
     span.lo() as i64
 }
 
+#[inline(always)]
 fn upper(span: Span<20>) -> i64
     requires { EndsBelow 41 span.lo span.hi }
     ensures value { result ≡ span.hi }
@@ -124,6 +126,7 @@ struct ShareSpans {
     pair: [Span<40>; 6],
 }
 
+#[inline(always)]
 fn share_spans(low: Shares, high: Shares) -> ShareSpans
     requires { SharesOrdered low high }
     ensures share { AreEndsOf 40 result.share (pos low.share) (pos high.share) }
@@ -148,6 +151,7 @@ fn share_spans(low: Shares, high: Shares) -> ShareSpans
     }
 }
 
+#[inline(always)]
 fn share_span(lo: u64, hi: u64) -> Span<40>
     requires { lo ≤ hi }
     ensures { AreEndsOf 40 result (pos lo) (pos hi) }
@@ -158,6 +162,7 @@ fn share_span(lo: u64, hi: u64) -> Span<40>
     }
 }
 
+#[inline(always)]
 fn depth_spans(low: Depths, high: Depths) -> WetDepths
     requires { (low.depth ≤ℤ high.depth) × (low.first ≤ℤ high.first) × (low.second ≤ℤ high.second) × (low.third ≤ℤ high.third) }
     ensures depth { AreEndsOf 20 result.depth low.depth high.depth }
@@ -173,6 +178,7 @@ fn depth_spans(low: Depths, high: Depths) -> WetDepths
     }
 }
 
+#[inline(always)]
 fn depth_span(lo: i64, hi: i64) -> Span<20>
     requires { lo ≤ℤ hi }
     ensures { AreEndsOf 20 result lo hi }
