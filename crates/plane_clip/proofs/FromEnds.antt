@@ -6,7 +6,9 @@ use native.Mathlib.Omega.{arith}
 use lib.IntN.{ℤ, pos}
 use mathlib.Core.Bool.{true, false}
 use lib.ListN.{get_or}
-use Rattle.std.specs.Prelude.{length}
+use Prim.Native.Nat.{◌+◌, ◌≤◌, ◌<◌, ◌^◌}
+use Rattle.std.specs.Prelude.{length, unsigned_abs}
+use Rattle.exact_fraction.specs.Bounds.{MagnitudeBelow}
 use Rattle.exact_algebra.proofs.Fraction.{Fraction, ◌⊖◌, ◌≼◌}
 use Rattle.exact_algebra.proofs.Whole.{whole}
 use Rattle.exact_algebra.proofs.Span.{ContainsFraction}
@@ -14,9 +16,11 @@ use Rattle.std.specs.List.{AllByRecursion}
 use Rattle.outward_interval.specs.Ends.{EndsBelow}
 use Rattle.outward_interval.specs.declared.span.Span.{Span}
 use Rattle.hull_model.specs.WetMean.{wet_share, wet_depth}
-use Rattle.plane_clip.specs.Rounded.{Near, share_ends, depth_ends, AreEndsOf, AreEachEnds, corners_of, pairs_of, weighted_of}
+use Rattle.plane_clip.specs.declared.shares.Shares.{Shares}
+use Rattle.plane_clip.specs.Rounded.{Near, AreSmall, share_ends, depth_ends, AreEndsOf, AreEachEnds, corners_of, pairs_of, weighted_of}
 use Rattle.plane_clip.specs.Enclosure.{Mean, Encloses, IsNoWider, Each, corner_means, pair_means, weighted_means}
 use Rattle.plane_clip.proofs.Enclosed as Enclosed
+use Rattle.plane_clip.proofs.Spread.{AreTightShares, tight_shares, AreAtMostOne, low_shares_most}
 
 -- the spans of a list of three
 pub three_spans : (h : List (Span 20)) (x y z : Span 20) → length h ≡ 3 → h ≡ get_or h 0 x ∷ get_or h 1 y ∷ get_or h 2 z ∷ []
@@ -164,3 +168,54 @@ module _ (x y z : Span 20) where
         ),
       ),
     )
+
+-- ---- how great the ends may be
+ends_below : (F bits : ℕ) (span : Span F) (lo hi : ℤ) → AreEndsOf F span lo hi → MagnitudeBelow bits lo → MagnitudeBelow bits hi → EndsBelow bits span.lo span.hi
+ends_below F bits span lo hi e h k = record { low = rw (e.0) h; high = rw (e.1) k }
+
+each_below : (F bits : ℕ) (los his : List ℤ) (spans : List (Span F)) → AllByRecursion (MagnitudeBelow bits) los → AllByRecursion (MagnitudeBelow bits) his → AreEachEnds F spans los his → AllByRecursion (λ s. EndsBelow bits s.lo s.hi) spans
+each_below F bits [] [] [] l h e = tt
+each_below F bits (lo ∷ los) (hi ∷ his) (span ∷ spans) l h e = (ends_below F bits span lo hi e.0 l.0 h.0, each_below F bits los his spans l.1 h.1 e.1)
+each_below F bits [] [] (span ∷ spans) l h e = absurd e
+each_below F bits [] (hi ∷ his) [] l h e = absurd e
+each_below F bits [] (hi ∷ his) (span ∷ spans) l h e = absurd e
+each_below F bits (lo ∷ los) [] [] l h e = absurd e
+each_below F bits (lo ∷ los) [] (span ∷ spans) l h e = absurd e
+each_below F bits (lo ∷ los) (hi ∷ his) [] l h e = absurd e
+
+pub depth_below : (span : Span 20) (d d' : ℤ) → unsigned_abs d < 2 ^ 43 → unsigned_abs d' < 2 ^ 43 → AreEndsOf 20 span d d' → EndsBelow 43 span.lo span.hi
+depth_below span d d' h k e = ends_below 20 43 span d d' e h k
+
+pub weighted_below : (spans : List (Span 20)) (d f s t d' f' s' t' : ℤ) → AreSmall d f s t → AreSmall d' f' s' t' → AreEachEnds 20 spans (f ∷ s ∷ t ∷ []) (f' ∷ s' ∷ t' ∷ []) → AllByRecursion (λ s. EndsBelow 43 s.lo s.hi) spans
+weighted_below spans d f s t d' f' s' t' a b e = each_below 20 43 (f ∷ s ∷ t ∷ []) (f' ∷ s' ∷ t' ∷ []) spans (a.1, (a.2, (a.3, tt))) (b.1, (b.2, (b.3, tt))) e
+
+module _ (a b c a' b' c' : ℤ) where
+  abbrev low_shares : Shares
+  low_shares = share_ends false a b c
+
+  abbrev high_shares : Shares
+  high_shares = share_ends true a' b' c'
+
+  low_most : AreAtMostOne low_shares
+  low_most = low_shares_most a b c
+
+  high_most : AreAtMostOne (share_ends false a' b' c')
+  high_most = low_shares_most a' b' c'
+
+  tight : AreTightShares (share_ends false a' b' c') high_shares
+  tight = tight_shares a' b' c'
+
+  low_below : (n : ℕ) → n ≤ 2 ^ 40 → MagnitudeBelow 41 (pos n)
+  low_below n h = omega (arith, h)
+
+  high_below : (n m : ℕ) → n ≤ 2 ^ 40 → m ≤ n + 8 → MagnitudeBelow 41 (pos m)
+  high_below n m h k = omega (arith, h, k)
+
+  pub share_below : (span : Span 40) → AreEndsOf 40 span (pos low_shares.share) (pos high_shares.share) → EndsBelow 41 span.lo span.hi
+  share_below span e = ends_below 40 41 span (pos low_shares.share) (pos high_shares.share) e (low_below _ low_most.share) (high_below _ _ high_most.share tight.share)
+
+  pub corners_below : (spans : List (Span 40)) → AreEachEnds 40 spans (corners_of low_shares) (corners_of high_shares) → AllByRecursion (λ s. EndsBelow 41 s.lo s.hi) spans
+  corners_below spans e = each_below 40 41 (corners_of low_shares) (corners_of high_shares) spans (low_below _ low_most.c0, (low_below _ low_most.c1, (low_below _ low_most.c2, tt))) (high_below _ _ high_most.c0 tight.c0, (high_below _ _ high_most.c1 tight.c1, (high_below _ _ high_most.c2 tight.c2, tt))) e
+
+  pub pairs_below : (spans : List (Span 40)) → AreEachEnds 40 spans (pairs_of low_shares) (pairs_of high_shares) → AllByRecursion (λ s. EndsBelow 41 s.lo s.hi) spans
+  pairs_below spans e = each_below 40 41 (pairs_of low_shares) (pairs_of high_shares) spans (low_below _ low_most.p00, (low_below _ low_most.p01, (low_below _ low_most.p02, (low_below _ low_most.p11, (low_below _ low_most.p12, (low_below _ low_most.p22, tt)))))) (high_below _ _ high_most.p00 tight.p00, (high_below _ _ high_most.p01 tight.p01, (high_below _ _ high_most.p02 tight.p02, (high_below _ _ high_most.p11 tight.p11, (high_below _ _ high_most.p12 tight.p12, (high_below _ _ high_most.p22 tight.p22, tt)))))) e

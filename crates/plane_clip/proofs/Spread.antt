@@ -54,6 +54,22 @@ pub record SharesSpread (n n' : Shares) : Type 0 where
   pub p12 : n'.p12 ≤ n.p12 + 10
   pub p22 : n'.p22 ≤ n.p22 + 10
 
+-- and how great they may be
+pub record SharesMost (n : Shares) : Type 0 where
+  pub share : n.share ≤ 1 * 2 ^ 40
+  pub c0 : n.c0 ≤ 3 * 2 ^ 40
+  pub c1 : n.c1 ≤ 1 * 2 ^ 40
+  pub c2 : n.c2 ≤ 1 * 2 ^ 40
+  pub p00 : n.p00 ≤ 6 * 2 ^ 40
+  pub p01 : n.p01 ≤ 4 * 2 ^ 40
+  pub p02 : n.p02 ≤ 4 * 2 ^ 40
+  pub p11 : n.p11 ≤ 1 * 2 ^ 40
+  pub p12 : n.p12 ≤ 1 * 2 ^ 40
+  pub p22 : n.p22 ≤ 1 * 2 ^ 40
+
+product-most : (m x y : ℕ) → x ≤ 2 ^ 40 → y ≤ m * 2 ^ 40 → scale false x y ≤ m * 2 ^ 40
+product-most m x y h k = div-le_of_le-mul (2 ^ 40) (omega (arith, mul-le-mul_right y h, k))
+
 module _ (T S U V T' S' U' V' : ℕ) (t : T ≤ 2 ^ 40) (s : S ≤ 2 ^ 40) (u : U ≤ 2 ^ 40) (v : V ≤ 2 ^ 40) (t' : T' ≤ T + 1) (s' : S' ≤ S + 1) (u' : U' ≤ U + 1) (v' : V' ≤ V + 1) where
   abbrev n : Shares
   n = tip_shares false T S U V
@@ -120,6 +136,24 @@ module _ (T S U V T' S' U' V' : ℕ) (t : T ≤ 2 ^ 40) (s : S ≤ 2 ^ 40) (u : 
     p12 = scale-spread 7 1 1 1 n.c1 n'.c1 S S' c1_spread s' (side_most T t) s (omega arith);
     p22 = scale-spread 7 1 1 1 n.c2 n'.c2 S S' c2_spread s' (side_most S s) s (omega arith);
   }
+
+  -- the numbers rounded down are at most these
+  pub tip_most : SharesMost n
+  tip_most = record {
+    share = once share_most;
+    c0 = product-most 3 n.share (2 ^ 40 + U + V) share_most (omega (arith, u, v));
+    c1 = once (side_most T t);
+    c2 = once (side_most S s);
+    p00 = product-most 6 n.share squares share_most squares_most;
+    p01 = product-most 4 n.c1 (2 ^ 40 + 2 * U + V) (side_most T t) (omega (arith, u, v));
+    p02 = product-most 4 n.c2 (2 ^ 40 + U + 2 * V) (side_most S s) (omega (arith, u, v));
+    p11 = product-most 1 n.c1 T (side_most T t) (once t);
+    p12 = product-most 1 n.c1 S (side_most T t) (once s);
+    p22 = product-most 1 n.c2 S (side_most S s) (once s);
+  }
+    where
+      once : {m : ℕ} → m ≤ 2 ^ 40 → m ≤ 1 * 2 ^ 40
+      once h = omega (arith, h)
 
 -- bounds of a part, and of its complement
 rest-most : (T : ℕ) → rest false T ≤ 2 ^ 40
@@ -360,3 +394,75 @@ tight_depths_in_turn true true false x y z f g h = turned_tight_depths (second_d
 
 pub tight_depths : (x y z : ℤ) → Near x → Near y → Near z → AreTightDepths (depth_ends false x y z) (depth_ends true x y z)
 tight_depths x y z f g h = tight_depths_in_turn (is_over x) (is_over y) (is_over z) x y z f g h
+
+-- ---- no end is far above 1
+quotient-most : (k n : ℕ) → 0 < k → n ≤ k * 2 ^ 40 → quotient false k n ≤ 2 ^ 40
+quotient-most k n o h = div-le_of_le-mul k h
+
+pub record AreAtMostOne (n : Shares) : Type 0 where
+  pub share : n.share ≤ 2 ^ 40
+  pub c0 : n.c0 ≤ 2 ^ 40
+  pub c1 : n.c1 ≤ 2 ^ 40
+  pub c2 : n.c2 ≤ 2 ^ 40
+  pub p00 : n.p00 ≤ 2 ^ 40
+  pub p01 : n.p01 ≤ 2 ^ 40
+  pub p02 : n.p02 ≤ 2 ^ 40
+  pub p11 : n.p11 ≤ 2 ^ 40
+  pub p12 : n.p12 ≤ 2 ^ 40
+  pub p22 : n.p22 ≤ 2 ^ 40
+
+one_tip : (n : Shares) → SharesMost n → AreAtMostOne (tip_ends false n)
+one_tip n m = record {
+  share = quotient-most 1 n.share (omega arith) (omega (arith, m.share));
+  c0 = quotient-most 3 n.c0 (omega arith) (omega (arith, m.c0));
+  c1 = quotient-most 3 n.c1 (omega arith) (omega (arith, m.c1));
+  c2 = quotient-most 3 n.c2 (omega arith) (omega (arith, m.c2));
+  p00 = quotient-most 6 n.p00 (omega arith) (omega (arith, m.p00));
+  p01 = quotient-most 12 n.p01 (omega arith) (omega (arith, m.p01));
+  p02 = quotient-most 12 n.p02 (omega arith) (omega (arith, m.p02));
+  p11 = quotient-most 6 n.p11 (omega arith) (omega (arith, m.p11));
+  p12 = quotient-most 12 n.p12 (omega arith) (omega (arith, m.p12));
+  p22 = quotient-most 6 n.p22 (omega arith) (omega (arith, m.p22));
+}
+
+one_rest : (n : Shares) → AreAtMostOne (rest_ends false n)
+one_rest n = record {
+  share = quotient-most 1 (2 ^ 40 - n.share) (omega arith) (omega arith);
+  c0 = quotient-most 3 (2 ^ 40 - n.c0) (omega arith) (omega arith);
+  c1 = quotient-most 3 (2 ^ 40 - n.c1) (omega arith) (omega arith);
+  c2 = quotient-most 3 (2 ^ 40 - n.c2) (omega arith) (omega arith);
+  p00 = quotient-most 6 (2 ^ 40 - n.p00) (omega arith) (omega arith);
+  p01 = quotient-most 12 (2 ^ 40 - n.p01) (omega arith) (omega arith);
+  p02 = quotient-most 12 (2 ^ 40 - n.p02) (omega arith) (omega arith);
+  p11 = quotient-most 6 (2 ^ 40 - n.p11) (omega arith) (omega arith);
+  p12 = quotient-most 12 (2 ^ 40 - n.p12) (omega arith) (omega arith);
+  p22 = quotient-most 6 (2 ^ 40 - n.p22) (omega arith) (omega arith);
+}
+
+one_nothing : AreAtMostOne nothing
+one_nothing = record { share = omega arith; c0 = omega arith; c1 = omega arith; c2 = omega arith; p00 = omega arith; p01 = omega arith; p02 = omega arith; p11 = omega arith; p12 = omega arith; p22 = omega arith; }
+
+one_shares_by : (u v : Bool) (T S : ℕ) → T ≤ 2 ^ 40 → S ≤ 2 ^ 40 → AreAtMostOne (shares_by false u v T S)
+one_shares_by false false T S t s = one_nothing
+one_shares_by true true T S t s = one_rest nothing
+one_shares_by true false T S t s = one_tip (tip_at false T S) (tip_most T S (rest false T) (rest false S) (T + 1) (S + 1) (rest true T) (rest true S) t s (rest-most T) (rest-most S) (same_ℕ (T + 1)) (same_ℕ (S + 1)) (rest-spread T) (rest-spread S))
+one_shares_by false true T S t s = one_rest (tip_at true T S)
+
+one_first : (x y z : ℤ) → AreAtMostOne (first_shares false x y z)
+one_first x y z = one_shares_by (is_over x) (is_over y) (part_between x y) (part_between x z) (part_by-most (is_over x) (is_over y) (unsigned_abs x) (unsigned_abs y)) (part_by-most (is_over x) (is_over z) (unsigned_abs x) (unsigned_abs z))
+
+turned_one : (n : Shares) → AreAtMostOne n → AreAtMostOne (second_shares n)
+turned_one n t = record { share = t.share; c0 = t.c2; c1 = t.c0; c2 = t.c1; p00 = t.p22; p01 = t.p02; p02 = t.p12; p11 = t.p00; p12 = t.p01; p22 = t.p11 }
+
+one_in_turn : (u v w : Bool) (x y z : ℤ) → AreAtMostOne (shares_in_turn false u v w x y z)
+one_in_turn false false false x y z = one_first x y z
+one_in_turn true true true x y z = one_first x y z
+one_in_turn true false false x y z = one_first x y z
+one_in_turn false true true x y z = one_first x y z
+one_in_turn false true false x y z = turned_one (first_shares false y z x) (one_first y z x)
+one_in_turn true false true x y z = turned_one (first_shares false y z x) (one_first y z x)
+one_in_turn false false true x y z = turned_one (second_shares (first_shares false z x y)) (turned_one (first_shares false z x y) (one_first z x y))
+one_in_turn true true false x y z = turned_one (second_shares (first_shares false z x y)) (turned_one (first_shares false z x y) (one_first z x y))
+
+pub low_shares_most : (x y z : ℤ) → AreAtMostOne (share_ends false x y z)
+low_shares_most x y z = one_in_turn (is_over x) (is_over y) (is_over z) x y z

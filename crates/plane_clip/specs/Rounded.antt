@@ -9,6 +9,10 @@ use Rattle.plane_clip.specs.declared.shares.Shares.{Shares}
 abbrev pub Near : ℤ → Type 0
 Near x = unsigned_abs x < 2 ^ 41
 
+-- four numbers below 2^43 in magnitude
+abbrev pub AreSmall : ℤ → ℤ → ℤ → ℤ → Type 0
+AreSmall d f s t = (unsigned_abs d < 2 ^ 43) × (unsigned_abs f < 2 ^ 43) × (unsigned_abs s < 2 ^ 43) × (unsigned_abs t < 2 ^ 43)
+
 abbrev pub is_over : ℤ → Bool
 is_over (pos zero) = false
 is_over (pos (suc n)) = true

@@ -1,6 +1,6 @@
 // The mean of the depth where it is above 0, alone and weighted by coordinates.
 ghost use Rattle.std.specs.Prelude.{◌≡◌, ◌+◌, ◌*◌, ◌^◌, ◌<◌, ◌≤◌, ◌+ℤ◌, unsigned_abs};
-ghost use Rattle.plane_clip.specs.Rounded.{Near, is_over, cube, scale, depth_tip, quotient_of_sum, sum_of, depths_from, depths_by, first_depths, depth_ends};
+ghost use Rattle.plane_clip.specs.Rounded.{Near, AreSmall, is_over, cube, scale, depth_tip, quotient_of_sum, sum_of, depths_from, depths_by, first_depths, depth_ends};
 
 use crate::rounding::{bound_of, is_under_water, part_at, rest_of, scaled};
 
@@ -37,7 +37,7 @@ struct Tip {
     first: u64,
     second: u64,
     third: u64,
-    ghost small: { (depth < 2 ^ 46) × (first < 2 ^ 46) × (second < 2 ^ 46) × (third < 2 ^ 46) },
+    ghost small: { (depth < 2 ^ 43) × (first < 2 ^ 46) × (second < 2 ^ 46) × (third < 2 ^ 46) },
 }
 
 const NO_TIP: Tip = Tip {
@@ -87,10 +87,10 @@ fn tip_of(a: u64, t: u64, s: u64, up: bool) -> Tip
 
 #[inline(always)]
 fn third_of(whole: i64, tip: u64, up: bool) -> i64
-    requires whole { unsigned_abs whole < 2 ^ 46 }
-    requires tip { tip < 2 ^ 46 }
+    requires whole { unsigned_abs whole < 2 ^ 43 }
+    requires tip { tip < 2 ^ 43 }
     ensures value { result ≡ quotient_of_sum up 3 whole tip }
-    ensures small { unsigned_abs result < 2 ^ 48 }
+    ensures small { unsigned_abs result < 2 ^ 43 }
 {
     if up {
         (whole + tip as i64 + 2).div_euclid(3)
@@ -101,10 +101,10 @@ fn third_of(whole: i64, tip: u64, up: bool) -> i64
 
 #[inline(always)]
 fn twelfth_of(whole: i64, tip: u64, up: bool) -> i64
-    requires whole { unsigned_abs whole < 2 ^ 46 }
+    requires whole { unsigned_abs whole < 2 ^ 44 }
     requires tip { tip < 2 ^ 46 }
     ensures value { result ≡ quotient_of_sum up 12 whole tip }
-    ensures small { unsigned_abs result < 2 ^ 48 }
+    ensures small { unsigned_abs result < 2 ^ 43 }
 {
     if up {
         (whole + tip as i64 + 11).div_euclid(12)
@@ -140,6 +140,7 @@ fn made_up(x: i64, y: i64, z: i64, tip: Tip, up: bool) -> Depths
     ensures first { result.first ≡ quotient_of_sum up 12 (sum_of x y z +ℤ x) tip.first }
     ensures second { result.second ≡ quotient_of_sum up 12 (sum_of x y z +ℤ y) tip.second }
     ensures third { result.third ≡ quotient_of_sum up 12 (sum_of x y z +ℤ z) tip.third }
+    ensures small { AreSmall result.depth result.first result.second result.third }
 {
     let sum = sum(x, y, z);
     Depths {
@@ -158,6 +159,7 @@ pub(crate) fn depths_of(x: i64, y: i64, z: i64, t: u64, s: u64, up: bool) -> Dep
     ensures first { result.first ≡ (depths_by up (is_over x) (is_over y) x y z t s).first }
     ensures second { result.second ≡ (depths_by up (is_over x) (is_over y) x y z t s).second }
     ensures third { result.third ≡ (depths_by up (is_over x) (is_over y) x y z t s).third }
+    ensures small { AreSmall result.depth result.first result.second result.third }
 {
     match (is_under_water(x), is_under_water(y)) {
         (false, false) => NO_DEPTHS,

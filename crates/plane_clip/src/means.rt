@@ -1,7 +1,7 @@
 // All means at corner depths of whole units. The corner that lies alone on its side of the water is taken first, the
 // others follow in turn, and the results are turned back.
 ghost use Rattle.std.specs.Prelude.{◌≡◌};
-ghost use Rattle.plane_clip.specs.Rounded.{Near, first_depths, first_shares, depth_ends, share_ends, second_shares};
+ghost use Rattle.plane_clip.specs.Rounded.{Near, AreSmall, first_depths, first_shares, depth_ends, share_ends, second_shares};
 
 use crate::depths::{Depths, depths_of};
 use crate::rounding::{is_under_water, part_at};
@@ -31,6 +31,7 @@ fn first_depths_at(x: i64, y: i64, z: i64, up: bool) -> Depths
     ensures first { result.first ≡ (first_depths up x y z).first }
     ensures second { result.second ≡ (first_depths up x y z).second }
     ensures third { result.third ≡ (first_depths up x y z).third }
+    ensures small { AreSmall result.depth result.first result.second result.third }
 {
     depths_of(x, y, z, part_at(x, y), part_at(x, z), up)
 }
@@ -42,6 +43,7 @@ pub(crate) fn depths_at(x: i64, y: i64, z: i64, up: bool) -> Depths
     ensures first { result.first ≡ (depth_ends up x y z).first }
     ensures second { result.second ≡ (depth_ends up x y z).second }
     ensures third { result.third ≡ (depth_ends up x y z).third }
+    ensures small { AreSmall result.depth result.first result.second result.third }
 {
     match (is_under_water(x), is_under_water(y), is_under_water(z)) {
         (false, true, false) | (true, false, true) => first_depths_at(y, z, x, up).second(),
@@ -58,6 +60,7 @@ fn first_means_at(x: i64, y: i64, z: i64, up: bool) -> Means
     ensures first { result.depths.first ≡ (first_depths up x y z).first }
     ensures second { result.depths.second ≡ (first_depths up x y z).second }
     ensures third { result.depths.third ≡ (first_depths up x y z).third }
+    ensures small { AreSmall result.depths.depth result.depths.first result.depths.second result.depths.third }
     ensures shares { result.shares ≡ first_shares up x y z }
 {
     let (t, s) = (part_at(x, y), part_at(x, z));
@@ -74,6 +77,7 @@ pub(crate) fn means_at(x: i64, y: i64, z: i64, up: bool) -> Means
     ensures first { result.depths.first ≡ (depth_ends up x y z).first }
     ensures second { result.depths.second ≡ (depth_ends up x y z).second }
     ensures third { result.depths.third ≡ (depth_ends up x y z).third }
+    ensures small { AreSmall result.depths.depth result.depths.first result.depths.second result.depths.third }
     ensures shares { result.shares ≡ share_ends up x y z }
 {
     match (is_under_water(x), is_under_water(y), is_under_water(z)) {

@@ -41,7 +41,8 @@ pub struct WetDepths {
 /// magnitude.
 ///
 /// Each field is no wider than its exact mean at the greatest depths less that at the least, plus 2^-36 for
-/// `share`, `corner` and `pair`, and 2^-17 mm for `depth` and `weighted`.
+/// `share`, `corner` and `pair`, and 2^-17 mm for `depth` and `weighted`. The ends of the first three are below 2^41
+/// in magnitude, those of the last two below 2^43.
 pub fn wet(h: [Span<20>; 3]) -> WetShare
     requires near { AllByRecursion (λ s. EndsBelow 41 s.lo s.hi) h }
     ensures share { Encloses 40 h result.share wet_share }
@@ -54,6 +55,11 @@ pub fn wet(h: [Span<20>; 3]) -> WetShare
     ensures pair_width { Each (IsNoWider 40 16 h) result.pair pair_means }
     ensures depth_width { IsNoWider 20 8 h result.depth wet_depth }
     ensures weighted_width { Each (IsNoWider 20 8 h) result.weighted weighted_means }
+    ensures share_bounded { EndsBelow 41 result.share.lo result.share.hi }
+    ensures corner_bounded { AllByRecursion (λ s. EndsBelow 41 s.lo s.hi) result.corner }
+    ensures pair_bounded { AllByRecursion (λ s. EndsBelow 41 s.lo s.hi) result.pair }
+    ensures depth_bounded { EndsBelow 43 result.depth.lo result.depth.hi }
+    ensures weighted_bounded { AllByRecursion (λ s. EndsBelow 43 s.lo s.hi) result.weighted }
 {
     wet_of(h[0], h[1], h[2])
 }
@@ -65,6 +71,8 @@ pub fn wet_depths(h: [Span<20>; 3]) -> WetDepths
     ensures weighted { Each (Encloses 20 h) result.weighted weighted_means }
     ensures depth_width { IsNoWider 20 8 h result.depth wet_depth }
     ensures weighted_width { Each (IsNoWider 20 8 h) result.weighted weighted_means }
+    ensures depth_bounded { EndsBelow 43 result.depth.lo result.depth.hi }
+    ensures weighted_bounded { AllByRecursion (λ s. EndsBelow 43 s.lo s.hi) result.weighted }
 {
     wet_depths_of(h[0], h[1], h[2])
 }
@@ -76,6 +84,11 @@ fn wet_of(x: Span<20>, y: Span<20>, z: Span<20>) -> WetShare
     ensures pair { AreEachEnds 40 result.pair (pairs_of (share_ends false x.lo y.lo z.lo)) (pairs_of (share_ends true x.hi y.hi z.hi)) }
     ensures depth { AreEndsOf 20 result.depth (depth_ends false x.lo y.lo z.lo).depth (depth_ends true x.hi y.hi z.hi).depth }
     ensures weighted { AreEachEnds 20 result.weighted (weighted_of (depth_ends false x.lo y.lo z.lo)) (weighted_of (depth_ends true x.hi y.hi z.hi)) }
+    ensures share_bounded { EndsBelow 41 result.share.lo result.share.hi }
+    ensures corner_bounded { AllByRecursion (λ s. EndsBelow 41 s.lo s.hi) result.corner }
+    ensures pair_bounded { AllByRecursion (λ s. EndsBelow 41 s.lo s.hi) result.pair }
+    ensures depth_bounded { EndsBelow 43 result.depth.lo result.depth.hi }
+    ensures weighted_bounded { AllByRecursion (λ s. EndsBelow 43 s.lo s.hi) result.weighted }
 {
     let low = means_at(lower(x), lower(y), lower(z), false);
     let high = means_at(upper(x), upper(y), upper(z), true);
@@ -95,6 +108,8 @@ fn wet_depths_of(x: Span<20>, y: Span<20>, z: Span<20>) -> WetDepths
     requires near { EndsBelow 41 x.lo x.hi × EndsBelow 41 y.lo y.hi × EndsBelow 41 z.lo z.hi }
     ensures depth { AreEndsOf 20 result.depth (depth_ends false x.lo y.lo z.lo).depth (depth_ends true x.hi y.hi z.hi).depth }
     ensures weighted { AreEachEnds 20 result.weighted (weighted_of (depth_ends false x.lo y.lo z.lo)) (weighted_of (depth_ends true x.hi y.hi z.hi)) }
+    ensures depth_bounded { EndsBelow 43 result.depth.lo result.depth.hi }
+    ensures weighted_bounded { AllByRecursion (λ s. EndsBelow 43 s.lo s.hi) result.weighted }
 {
     let low = depths_at(lower(x), lower(y), lower(z), false);
     let high = depths_at(upper(x), upper(y), upper(z), true);

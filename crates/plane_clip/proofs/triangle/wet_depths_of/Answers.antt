@@ -1,6 +1,7 @@
 use Rattle.std.proofs.Common.{◌∙◌, true, false}
 use Rattle.plane_clip.specs.Rounded.{depth_ends}
 use Rattle.plane_clip.proofs.ReadDepths.{are_read, fields_read, fields_ordered, fields_weighted}
+use Rattle.plane_clip.proofs.FromEnds.{depth_below, weighted_below}
 use Rattle.plane_clip.proofs.triangle.wet_depths_of.Goals as goal
 
 pub depth_spans-requires : goal.depth_spans-requires
@@ -34,3 +35,10 @@ returns-clause-weighted c =
     (record { depth = c.depths_at-high.ensures.depth; first = c.depths_at-high.ensures.first; second = c.depths_at-high.ensures.second; third = c.depths_at-high.ensures.third }) in
     fields_weighted c.depth_spans.result.weighted (depth_ends false c.args.x.lo c.args.y.lo c.args.z.lo) (depth_ends true c.args.x.hi c.args.y.hi c.args.z.hi)
     c.depths_at-low.result.depth c.depths_at-low.result.first c.depths_at-low.result.second c.depths_at-low.result.third c.depths_at-high.result.depth c.depths_at-high.result.first c.depths_at-high.result.second c.depths_at-high.result.third low_fields high_fields c.depth_spans.ensures.weighted
+
+pub returns-clause-depth_bounded : goal.returns-clause-depth_bounded
+returns-clause-depth_bounded c = depth_below c.depth_spans.result.depth c.depths_at-low.result.depth c.depths_at-high.result.depth c.depths_at-low.ensures.small.0 c.depths_at-high.ensures.small.0 c.depth_spans.ensures.depth
+
+pub returns-clause-weighted_bounded : goal.returns-clause-weighted_bounded
+returns-clause-weighted_bounded c =
+    weighted_below c.depth_spans.result.weighted c.depths_at-low.result.depth c.depths_at-low.result.first c.depths_at-low.result.second c.depths_at-low.result.third c.depths_at-high.result.depth c.depths_at-high.result.first c.depths_at-high.result.second c.depths_at-high.result.third c.depths_at-low.ensures.small c.depths_at-high.ensures.small c.depth_spans.ensures.weighted
