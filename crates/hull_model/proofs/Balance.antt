@@ -246,7 +246,7 @@ length_moved : (before after : List (Triangle Node)) (h : Triangle Node) → len
 length_moved [] after h = refl
 length_moved (f ∷ before) after h = ap suc (length_moved before after h)
 
-sum_whole : (k : Triangle Node → ℤ) (fs : List (Triangle Node)) → sum_of k fs ≡ sum_in whole_numbers k fs
+pub sum_whole : (k : Triangle Node → ℤ) (fs : List (Triangle Node)) → sum_of k fs ≡ sum_in whole_numbers k fs
 sum_whole k [] = refl
 sum_whole k (f ∷ fs) = ap (λ n. k f +ℤ n) (sum_whole k fs)
 

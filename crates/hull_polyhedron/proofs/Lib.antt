@@ -1,0 +1,11 @@
+pub mod Kept
+pub mod Sums
+pub mod Solids
+pub mod Telescope
+pub mod Hulls
+pub mod Listing
+pub mod Extents
+pub mod FaceSums
+pub mod Proper
+pub mod Lengths
+pub mod SixVolume

@@ -1,0 +1,39 @@
+use Rattle.std.proofs.Common.{sym, ◌∙◌, List, length, map, ◌<◌, ◌^◌, ℤ}
+use mathlib.Core.Path.{subst}
+use Rattle.std.proofs.lemmas.Int.{to_z-of_z}
+use Rattle.std.specs.Int.{w64}
+use mir.Val.{SFits}
+use Rattle.hull_model.specs.declared.face.Face.{Face}
+use Rattle.hull_model.specs.declared.station.Station.{Station}
+use Rattle.hull_model.specs.Body.{IsHull}
+use Rattle.hull_model.specs.Boundary.{IsBoundary}
+use Rattle.hull_model.specs.Faces.{triangle_of}
+use Rattle.hull_model.specs.SignedFaces.{signed_faces}
+use Rattle.hull_polyhedron.specs.Extent.{IsLeast, IsGreatest}
+use Rattle.hull_polyhedron.specs.FacesOf.{AreFacesOf}
+use Rattle.hull_polyhedron.proofs.Lengths.{few_faces}
+use Rattle.hull_polyhedron.proofs.Listing.{kept_boundary}
+use Rattle.hull_polyhedron.proofs.calls.faces_of.Goals as goal
+
+pub assembled-requires : goal.assembled-requires
+assembled-requires c =
+    subst (λ (fs : List Face). length fs < 2 ^ 14) (sym c.in_ok-list.ensures)
+    (few_faces c.stations-stations.result.now (subst IsHull (sym c.stations-stations.ensures.same) c.stations-stations.ensures.kept))
+
+pub returns : goal.returns
+returns c =
+    let stations = c.stations-stations.result.now in
+    let hull : IsHull c.stations-stations.result.now = subst IsHull (sym c.stations-stations.ensures.same) c.stations-stations.ensures.kept in
+    let first-fits : SFits w64 c.first_x_of.result = record { sfits = c.first_x_of.type_inv } in
+    let last-fits : SFits w64 c.last_x_of.result = record { sfits = c.last_x_of.type_inv } in
+    let first = simp to_z-of_z at c.assembled.ensures.first_x in
+    let last = simp to_z-of_z at c.assembled.ensures.last_x in
+    subst (λ (stations : List Station). AreFacesOf stations c.assembled.result) c.stations-stations.ensures.same (record {
+      boundary = subst (λ (fs : List Face). IsBoundary (map triangle_of fs) (signed_faces c.stations-stations.result.now)) (sym (c.assembled.ensures.list ∙ c.in_ok-list.ensures))
+          (kept_boundary c.stations-stations.result.now hull.each hull.places_rise);
+      first_x = first ∙ c.first_x_of.ensures;
+      last_x = last ∙ c.last_x_of.ensures;
+      low_z = subst (λ (n : ℤ). IsLeast (λ p. p.z) c.stations-stations.result.now n) (sym c.assembled.ensures.low_z) c.extent_of-extent.ensures.low_z;
+      high_z = subst (λ (n : ℤ). IsGreatest (λ p. p.z) c.stations-stations.result.now n) (sym c.assembled.ensures.high_z) c.extent_of-extent.ensures.high_z;
+      half_breadth = subst (λ (n : ℤ). IsGreatest (λ p. p.y) c.stations-stations.result.now n) (sym c.assembled.ensures.half_breadth) c.extent_of-extent.ensures.half_breadth;
+    })

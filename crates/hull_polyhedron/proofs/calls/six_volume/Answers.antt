@@ -1,0 +1,15 @@
+use Rattle.std.proofs.Common.{◌∙◌, ap, List, map}
+use Rattle.std.proofs.lemmas.Int.{to_z-of_z}
+use Rattle.std.specs.Int.{w128}
+use mir.Val.{SFits}
+use Rattle.hull_model.specs.declared.face.Face.{Face}
+use Rattle.hull_model.specs.Boundary.{sum_of}
+use Rattle.hull_model.specs.Faces.{determinant, triangle_of}
+use Rattle.hull_polyhedron.proofs.SixVolume.{balanced_six}
+use Rattle.hull_polyhedron.proofs.calls.six_volume.Goals as goal
+
+pub returns : goal.returns
+returns c = λ stations hull are.
+    let fits : SFits w128 c.sum_of_determinants.result = record { sfits = c.sum_of_determinants.type_inv } in
+    simp to_z-of_z (c.sum_of_determinants.ensures ∙ ap (λ (fs : List Face). sum_of determinant (map triangle_of fs)) c.list.ensures.same
+    ∙ balanced_six (map triangle_of c.args.faces.now.list) stations hull.each hull.places_rise are.boundary.balanced)

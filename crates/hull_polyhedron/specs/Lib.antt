@@ -1,0 +1,4 @@
+pub mod Listed
+pub mod Widening
+pub mod Extent
+pub mod FacesOf

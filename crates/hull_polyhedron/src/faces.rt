@@ -1,0 +1,68 @@
+// The boundary of a hull.
+ghost use Rattle.std.specs.Prelude.{◌≡◌, ◌<◌, ◌^◌, length};
+ghost use Rattle.std.specs.List.{AllByRecursion};
+ghost use Rattle.hull_model.specs.Faces.{IsFace};
+
+use crate::FaceList;
+use hull_model::Face;
+
+/// The boundary of a hull: the faces of its tetrahedra that are left after opposite ones cancel, and
+/// between what the hull lies.
+///
+/// Faces of no area are left out. There are fewer than 16384.
+#[derive(Debug, Drop)]
+pub struct Faces {
+    pub(crate) list: FaceList,
+    pub(crate) first_x: i64,
+    pub(crate) last_x: i64,
+    pub(crate) low_z: i64,
+    pub(crate) high_z: i64,
+    pub(crate) half_breadth: i64,
+    ghost few: { length list < 2 ^ 14 },
+}
+
+impl Faces {
+    /// The faces in order.
+    pub fn list(&self) -> &[Face]
+        ensures same { result.now ≡ self.now.list }
+        ensures limits { AllByRecursion IsFace self.now.list }
+        ensures few { length self.now.list < 2 ^ 14 }
+    {
+        self.list.as_slice()
+    }
+
+    /// x of the first station, in mm.
+    pub fn first_x(&self) -> i64
+        ensures { result ≡ self.now.first_x }
+    {
+        self.first_x
+    }
+
+    /// x of the last station, in mm.
+    pub fn last_x(&self) -> i64
+        ensures { result ≡ self.now.last_x }
+    {
+        self.last_x
+    }
+
+    /// The least height of a point, in mm.
+    pub fn low_z(&self) -> i64
+        ensures { result ≡ self.now.low_z }
+    {
+        self.low_z
+    }
+
+    /// The greatest height of a point, in mm.
+    pub fn high_z(&self) -> i64
+        ensures { result ≡ self.now.high_z }
+    {
+        self.high_z
+    }
+
+    /// The greatest half-breadth of a point, in mm.
+    pub fn half_breadth(&self) -> i64
+        ensures { result ≡ self.now.half_breadth }
+    {
+        self.half_breadth
+    }
+}

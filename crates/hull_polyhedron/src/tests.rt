@@ -1,0 +1,84 @@
+use crate::{Faces, faces_of, six_volume};
+use hull_model::{Hull, Point, Points, Station};
+use std::alloc::Global;
+use std::test::Fail;
+
+const BARGE: &str = "\
+0 10000/0 10000/10000\n\
+50000 10000/0 10000/10000\n\
+100000 10000/0 10000/10000";
+
+// The cargo ship, a station on each line: x, and half-breadths over heights.
+const CARGO: &str = "\
+0 0/0 0/1000 0/3000 1500/6000 6000/9000 7500/12000\n\
+5000 0/0 400/1000 900/3000 3800/6000 7300/9000 8200/12000\n\
+10000 200/0 1200/1000 2500/3000 5900/6000 8300/9000 8700/12000\n\
+15000 800/0 2600/1000 4600/3000 7500/6000 8800/9000 8950/12000\n\
+20000 1900/0 4400/1000 6500/3000 8500/6000 9000/9000 9000/12000\n\
+25000 3400/0 6200/1000 7900/3000 8900/6000 9000/9000 9000/12000\n\
+30000 5000/0 7600/1000 8700/3000 9000/6000 9000/9000 9000/12000\n\
+35000 6200/0 8300/1000 8950/3000 9000/6000 9000/9000 9000/12000\n\
+40000 6800/0 8600/1000 9000/3000 9000/6000 9000/9000 9000/12000\n\
+45000 7000/0 8700/1000 9000/3000 9000/6000 9000/9000 9000/12000\n\
+50000 7000/0 8700/1000 9000/3000 9000/6000 9000/9000 9000/12000\n\
+55000 7000/0 8700/1000 9000/3000 9000/6000 9000/9000 9000/12000\n\
+60000 6800/0 8600/1000 9000/3000 9000/6000 9000/9000 9000/12000\n\
+65000 6300/0 8300/1000 8950/3000 9000/6000 9000/9000 9000/12000\n\
+70000 5400/0 7700/1000 8700/3000 8950/6000 9000/9000 9000/12000\n\
+75000 4200/0 6600/1000 8000/3000 8600/6000 8850/9000 9000/12000\n\
+80000 2900/0 5200/1000 6900/3000 7800/6000 8300/9000 8800/12000\n\
+85000 1700/0 3600/1000 5300/3000 6400/6000 7200/9000 8200/12000\n\
+90000 800/0 2200/1000 3500/3000 4600/6000 5600/9000 7100/12000\n\
+95000 200/0 900/1000 1700/3000 2500/6000 3500/9000 5200/12000\n\
+102000 0/12000";
+
+fn hull_of(alloc: Global, text: &str) -> Result<Option<Hull>, Fail> {
+    let mut stations = Vec::new(alloc);
+    for line in text.lines() {
+        let mut x = 0;
+        let mut points = Vec::new(alloc);
+        for word in line.split(' ') {
+            match word.split_once('/') {
+                Some((y, z)) => points.push(Point {
+                    y: y.parse()?,
+                    z: z.parse()?,
+                })?,
+                None => x = word.parse()?,
+            }
+        }
+        stations.push(Station {
+            x,
+            points: Points::new(points),
+        })?;
+    }
+    Ok(Hull::of(stations))
+}
+
+fn faces_in(alloc: Global, text: &str) -> Result<Option<Faces>, Fail> {
+    match hull_of(alloc, text)? {
+        Some(hull) => Ok(Some(faces_of(alloc, &hull)?)),
+        None => Ok(None),
+    }
+}
+
+#[test]
+fn the_barge_has_32_faces(rt: HostRuntime) -> Result<(), Fail> {
+    let faces = faces_in(rt.alloc(), BARGE)?.expect(&rt, "a hull");
+    assert_eq!(rt; faces.list().len(), 32);
+    assert_eq!(rt; six_volume(&faces), 120000000000000);
+    assert_eq!(rt; (faces.first_x(), faces.last_x()), (0, 100000));
+    assert_eq!(rt; (faces.low_z(), faces.high_z()), (0, 10000));
+    assert_eq!(rt; faces.half_breadth(), 10000);
+    Ok(())
+}
+
+#[test]
+fn the_cargo_ship_has_548_faces(rt: HostRuntime) -> Result<(), Fail> {
+    let faces = faces_in(rt.alloc(), CARGO)?.expect(&rt, "a hull");
+    assert_eq!(rt; faces.list().len(), 548);
+    assert_eq!(rt; six_volume(&faces), 101283500000000);
+    assert_eq!(rt; (faces.first_x(), faces.last_x()), (0, 102000));
+    assert_eq!(rt; (faces.low_z(), faces.high_z()), (0, 12000));
+    assert_eq!(rt; faces.half_breadth(), 9000);
+    Ok(())
+}
