@@ -1,10 +1,11 @@
 #!/usr/bin/env python3
-"""Draws the righting-arm curve and the hydrostatic curves of a report, each with its intervals as a band.
+"""Draws the righting-arm curve, the hydrostatic and the Bonjean curves of a report, each with its intervals as a band.
 
     tools/report_svg.py REPORT [--curve NAME] [--out FOLDER]
 
 The curves are gz and area (arm lines, over degrees of heel) and volume, displacement, lcb, kb, waterplane, lcf, bmt,
-bml, kmt, tpc, mct (hydro lines, over the draft). With --out each curve of at least two points is written to
+bml, kmt, tpc, mct (hydro lines, over the draft), and station0, station1, .. (section lines: the area of that station
+over the draft). Reports may be joined to one file: curves take the lines of all. With --out each curve of at least two points is written to
 FOLDER/NAME.svg; otherwise --curve goes to the output. A band reaches from the low ends to the high ends; where it is
 thinner than a hair the line is still drawn. Figures that are absent break a curve.
 Ends with 1 and the number of the line where a line is outside the grammar.
@@ -37,6 +38,10 @@ def curves_of(lines):
     rows = [words for words in lines if words[0] == "hydro"]
     for at, (name, title) in enumerate(HYDRO, start=2):
         found[name] = ("draft, m", title, [(int(words[1]) / 1000, report_lines.figure_of(words[at])) for words in rows])
+    sections = [words for words in lines if words[0] == "section"]
+    for station in sorted({int(words[1]) for words in sections}):
+        points = [(int(words[3]) / 1000, report_lines.figure_of(words[4])) for words in sections if int(words[1]) == station]
+        found[f"station{station}"] = ("draft, m", f"section of station {station}, m²", points)
     return {
         name: (across, title, sorted(points, key=lambda point: point[0]))
         for name, (across, title, points) in found.items()
@@ -105,7 +110,7 @@ def drawing(across, title, points):
 def main():
     reader = argparse.ArgumentParser(description=__doc__, formatter_class=argparse.RawDescriptionHelpFormatter)
     reader.add_argument("report", help="a file, or - for the input")
-    reader.add_argument("--curve", choices=[name for name, *_ in ARM + HYDRO])
+    reader.add_argument("--curve")
     reader.add_argument("--out", type=pathlib.Path)
     given = reader.parse_args()
     content = sys.stdin.buffer.read() if given.report == "-" else pathlib.Path(given.report).read_bytes()
@@ -113,14 +118,16 @@ def main():
         curves = curves_of(report_lines.lines_of(content))
     except report_lines.BadLine as bad:
         sys.exit(f"{given.report}: {bad}")
-    if given.out:
+    if given.out and curves:
         given.out.mkdir(parents=True, exist_ok=True)
         for name, curve in curves.items():
             (given.out / f"{name}.svg").write_text(drawing(*curve))
         return
-    name = given.curve or next(iter(curves), None)
+    if not curves:
+        sys.exit(f"{given.report}: no curve has two points")
+    name = given.curve or next(iter(curves))
     if name not in curves:
-        sys.exit(f"{given.report}: {name or 'no curve'} has fewer than two points")
+        sys.exit(f"{given.report}: no curve {name} of two points; there are {' '.join(curves)}")
     sys.stdout.write(drawing(*curves[name]))
 
 
