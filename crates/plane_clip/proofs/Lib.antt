@@ -3,6 +3,7 @@ pub mod ShareSplits
 pub mod WetSum
 pub mod TriangleLaws
 pub mod Rising
+pub mod GreatestRise
 pub mod MeanKinds
 pub mod TipValues
 pub mod PartSteps

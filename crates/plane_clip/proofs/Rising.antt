@@ -27,7 +27,7 @@ abbrev NonNegative : Fraction → Type 0
 NonNegative x = sign x ≢ below
 
 -- one point at two depths: the second is at least as deep as the first
-abbrev Raised : Type 0
+abbrev pub Raised : Type 0
 Raised = Place × Place
 
 pub record Rises (x : Raised) : Type 0 where
@@ -39,7 +39,7 @@ pub record Rises (x : Raised) : Type 0 where
   pub same_third : x.0.third ≼ x.1.third
   pub deeper : x.0.depth ≼ x.1.depth
 
-abbrev between_both : Fraction → Raised → Raised → Raised
+abbrev pub between_both : Fraction → Raised → Raised → Raised
 between_both t x y = (between t x.0 y.0, between t x.1 y.1)
 
 module _ (t : Fraction) (i : IsInside t) where
@@ -50,7 +50,7 @@ module _ (t : Fraction) (i : IsInside t) where
   ≼-between x y x' y' h k = order_from fractions (t ∷ x ∷ y ∷ x' ∷ y' ∷ []) ((unit :- var 0, var 1, var 3) ∷ (var 0, var 2, var 4) ∷ [])
       (scaled (Order.nonnegative_positive fractions i.1) h (scaled (Order.nonnegative_positive fractions i.0) k no_more)) ((unit :- var 0) :* var 1 :+ var 0 :* var 2) ((unit :- var 0) :* var 3 :+ var 0 :* var 4) refl
 
-  rises-between : (x y : Raised) → Rises x → Rises y → Rises (between_both t x y)
+  pub rises-between : (x y : Raised) → Rises x → Rises y → Rises (between_both t x y)
   rises-between x y h k = record {
     first = nonnegative-between x.0.first y.0.first h.first k.first;
     second = nonnegative-between x.0.second y.0.second h.second k.second;
@@ -95,16 +95,16 @@ above_low x y h e = go (sign x) refl
     go above f = absurd (true-ne-false (sym (ap Over.is_above (Order.positive_from fractions f h)) ∙ e))
 
 -- the depth of the first and of the second
-abbrev low_corners : Corners Raised
+abbrev pub low_corners : Corners Raised
 low_corners = record { depth = λ x. x.0.depth; between = between_both }
 
-abbrev high_corners : Corners Raised
+abbrev pub high_corners : Corners Raised
 high_corners = record { depth = λ x. x.1.depth; between = between_both }
 
 low_linear : IsLinear low_corners
 low_linear t p q = refl
 
-high_linear : IsLinear high_corners
+pub high_linear : IsLinear high_corners
 high_linear t p q = refl
 
 module _ (f g : Place → Fraction) (weight : IsWeight f) (rising : IsRising g) where
@@ -222,6 +222,13 @@ module _ (f g : Place → Fraction) (weight : IsWeight f) (rising : IsRising g) 
 
       same : (q : Fraction) → q ≼ q
       same q = Order.≼_refl fractions q
+
+  -- nor is the form at the lesser depths below nought
+  pub form_nonnegative : (a b c : Raised) → Rises a → Rises b → Rises c → NonNegative (form a.0 b.0 c.0)
+  form_nonnegative a b c x y z = is_nonnegative (a.0, a.0) (b.0, b.0) (c.0, c.0) (still a x) (still b y) (still c z)
+    where
+      still : (p : Raised) → Rises p → Rises (p.0, p.0)
+      still p r = record { first = r.first; second = r.second; third = r.third; same_first = Order.≼_refl fractions p.0.first; same_second = Order.≼_refl fractions p.0.second; same_third = Order.≼_refl fractions p.0.third; deeper = Order.≼_refl fractions p.0.depth }
 
   -- and isn't below nought
   pub mean_nonnegative : (mean : Triangle Place → Fraction) → ((t : Triangle Place) → mean t ⊗ N12 ≡ twelve_at f g t) → (h k l : Fraction) → NonNegative (wet_mean mean h k l)

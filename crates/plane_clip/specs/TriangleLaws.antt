@@ -4,7 +4,7 @@ use Rattle.exact_algebra.specs.OrderedField.{below, above}
 use Rattle.exact_algebra.proofs.Fraction.{Fraction, nought, one, ◌⊕◌, ◌⊗◌, ◌⊖◌, sign, ◌≼◌}
 use Rattle.hull_model.specs.Fractions.{sum_over}
 use Rattle.hull_model.specs.TriangleCut.{Triangle, triangle, kept_pieces}
-use Rattle.hull_model.specs.WetMean.{Place, places, with_depths, share_of, wet_mean}
+use Rattle.hull_model.specs.WetMean.{Place, places, with_depths, share_of, wet_mean, wet_depth}
 
 -- the sum over a triangle's kept pieces of share times mean, which for the whole triangle is the wet mean
 unfoldable pub wet_part : (Triangle Place → Fraction) → Triangle Place → Fraction
@@ -47,3 +47,11 @@ pub record ObeysLaws (mean : Triangle Place → Fraction) : Type 0 where
       → wet_mean mean h k l ≡ (t ⊗ s) ⊗ mean (tip t s (with_depths h k l))
   pub two_above : (t s h k l : Fraction) → sign h ≢ above → sign k ≡ above → sign l ≡ above → IsCrossingAt t h k → IsCrossingAt s h l
       → wet_mean mean h k l ≡ mean (with_depths h k l) ⊖ (t ⊗ s) ⊗ mean (tip t s (with_depths h k l))
+
+-- a mean rises with the depths of the corners
+abbrev pub RisesWithDepths : (Fraction → Fraction → Fraction → Fraction) → Type 0
+RisesWithDepths mean = (h k l h' k' l' : Fraction) → h ≼ h' → k ≼ k' → l ≼ l' → mean h k l ≼ mean h' k' l'
+
+-- the mean of the depth rises by at most the greatest rise of a corner's depth
+abbrev pub RisesByAtMost : Type 0
+RisesByAtMost = (d h k l h' k' l' : Fraction) → nought ≼ d → h' ≼ h ⊕ d → k' ≼ k ⊕ d → l' ≼ l ⊕ d → wet_depth h' k' l' ≼ wet_depth h k l ⊕ d

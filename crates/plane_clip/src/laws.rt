@@ -1,8 +1,8 @@
 // Theorems about the definitions, each the contract of a function with an empty body.
 ghost use Rattle.std.specs.Prelude.{ℕ};
 ghost use Rattle.exact_algebra.proofs.Fraction.{one};
-ghost use Rattle.hull_model.specs.WetMean.{linear_mean, product_mean, coordinate};
-ghost use Rattle.plane_clip.specs.TriangleLaws.{ObeysLaws};
+ghost use Rattle.hull_model.specs.WetMean.{linear_mean, product_mean, coordinate, wet_share, wet_corner, wet_pair, wet_depth, weighted_depth};
+ghost use Rattle.plane_clip.specs.TriangleLaws.{ObeysLaws, RisesWithDepths, RisesByAtMost};
 
 /// The law on triangles, for each mean over the wet part of a triangle: of 1, of a coordinate, of the product of
 /// two, of the depth, and of the depth times a coordinate.
@@ -15,4 +15,18 @@ pub fn wet_means_obey_the_laws()
     ensures pair { (n m : ℕ) → ObeysLaws (product_mean (coordinate n) (coordinate m)) }
     ensures depth { ObeysLaws (linear_mean (λ p. p.depth)) }
     ensures weighted { (n : ℕ) → ObeysLaws (product_mean (coordinate n) (λ p. p.depth)) }
+{}
+
+/// Each mean over the wet part rises with the depths of the corners.
+pub fn wet_means_rise()
+    ensures share { RisesWithDepths wet_share }
+    ensures corner { (n : ℕ) → RisesWithDepths (wet_corner n) }
+    ensures pair { (n m : ℕ) → RisesWithDepths (wet_pair n m) }
+    ensures depth { RisesWithDepths wet_depth }
+    ensures weighted { (n : ℕ) → RisesWithDepths (weighted_depth n) }
+{}
+
+/// The mean depth rises by at most the greatest rise of a corner's depth.
+pub fn wet_depth_rises_by_at_most_the_greatest_rise()
+    ensures { RisesByAtMost }
 {}
