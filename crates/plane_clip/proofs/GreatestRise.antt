@@ -1,24 +1,22 @@
 -- The mean of the depth where it is above nought rises by at most the greatest rise of a corner's depth.
-use Prim.Native.Nat.{ℕ, zero, suc}
+use Prim.Native.Nat.{ℕ}
 use native.Mathlib.Omega.{arith}
-use mathlib.Core.Path.{◌≡◌, refl, sym, ◌∙◌, ap, ap₂}
+use mathlib.Core.Path.{◌≡◌, refl, sym, ◌∙◌, ap}
 use mathlib.Core.List.{List, [], ◌∷◌}
 use mathlib.Core.Logic.{◌≢◌}
 use mathlib.Core.Bool.{Bool, true, false}
 use Rattle.exact_algebra.specs.Expression.{Expression, var, unit, number, ◌:+◌, ◌:-◌, ◌:*◌, opposite}
 use Rattle.exact_algebra.specs.OrderedField.{Sign, below, level, above}
 use Rattle.exact_algebra.proofs.Ring.{ring, ring_from, none, given}
-use Rattle.exact_algebra.proofs.Fraction.{Fraction, nought, one, ◌⊕◌, ◌⊗◌, ◌⊖◌, negative, sign, fractions, fraction_ring, ◌≼◌}
-use Rattle.exact_algebra.proofs.Whole.{whole, positive-whole}
+use Rattle.exact_algebra.proofs.Fraction.{Fraction, nought, one, ◌⊕◌, ◌⊗◌, ◌⊖◌, sign, fractions, fraction_ring, ◌≼◌}
+use Rattle.exact_algebra.proofs.Whole.{positive-whole}
 use Rattle.exact_algebra.proofs.Order as Order
 use Rattle.exact_algebra.proofs.Order.{order_from, no_more, at_most, scaled, equal}
-use Rattle.exact_algebra.proofs.WetForm as Form
-use Rattle.hull_model.specs.TriangleCut.{Triangle, triangle, Corners, is_kept_by, are_opposite, side, crossing}
-use Rattle.hull_model.specs.WetMean.{Place, places, with_depths, linear_mean, wet_mean, wet_depth}
-use Rattle.hull_model.proofs.TriangleCut.{IsLinear}
+use Rattle.hull_model.specs.TriangleCut.{Triangle, triangle, is_kept_by, are_opposite, side, crossing}
+use Rattle.hull_model.specs.WetMean.{Place, places, with_depths, linear_mean, wet_depth}
 use Rattle.plane_clip.specs.TriangleLaws.{between, RisesByAtMost}
 use Rattle.plane_clip.proofs.CutInduction.{IsInside, one_side, inside, crossing_parameter, cut_induction}
-use Rattle.plane_clip.proofs.WetSum.{N12, valued, form_at, twelve_at, form_first, form_middle, form_last, wet_mean-form, kept_none_below, not_all_level, not_kept_either, linear, form_kept, form_not_above}
+use Rattle.plane_clip.proofs.WetSum.{N12, form_at, twelve_at, form_first, form_middle, form_last, wet_mean-form, not_kept_either, linear, form_kept, form_not_above}
 use Rattle.plane_clip.proofs.TriangleLaws.{constant, constant_linear, depth_at, depth_linear, linear-twelfth, N-twelve}
 use Rattle.plane_clip.proofs.Rising.{Raised, Rises, rises-between, high_corners, high_linear, constant_weight, depth_rising, mean_rises, form_nonnegative, between_both}
 
@@ -156,9 +154,9 @@ module _ (d : Fraction) (nonnegative : sign d ≢ below) where
   lifted h k l = Order.≼_cancel fractions (positive-whole 12 (omega arith)) (order_from fractions (wet_depth h k l ∷ wet_depth (h ⊕ d) (k ⊕ d) (l ⊕ d) ∷ d ∷ N12 ∷ form low.a low.b low.c ∷ form high.a high.b high.c ∷ [])
       ((unit, var 1 :* var 3, var 5) ∷ (opposite unit, var 0 :* var 3, var 4) ∷ (unit, var 5, var 4 :+ var 3 :* var 2) ∷ [])
       (equal (known (h ⊕ d) (k ⊕ d) (l ⊕ d)) (equal (known h k l) (at_most (form_rises_by (low.a, high.a) (low.b, high.b) (low.c, high.c)
-        (record { first = some; second = none_left; third = none_left; same_first = same one; same_second = same nought; same_third = same nought; deeper = more h })
-        (record { first = none_left; second = some; third = none_left; same_first = same nought; same_second = same one; same_third = same nought; deeper = more k })
-        (record { first = none_left; second = none_left; third = some; same_first = same nought; same_second = same nought; same_third = same one; deeper = more l }) refl refl refl) no_more)))
+      (record { first = some; second = none_left; third = none_left; same_first = same one; same_second = same nought; same_third = same nought; deeper = more h })
+      (record { first = none_left; second = some; third = none_left; same_first = same nought; same_second = same one; same_third = same nought; deeper = more k })
+      (record { first = none_left; second = none_left; third = some; same_first = same nought; same_second = same nought; same_third = same one; deeper = more l }) refl refl refl) no_more)))
       (var 1 :* var 3) ((var 0 :+ var 2) :* var 3) refl)
     where
       low : Triangle Place

@@ -440,7 +440,7 @@ one_rest n = record {
 }
 
 one_nothing : AreAtMostOne nothing
-one_nothing = record { share = omega arith; c0 = omega arith; c1 = omega arith; c2 = omega arith; p00 = omega arith; p01 = omega arith; p02 = omega arith; p11 = omega arith; p12 = omega arith; p22 = omega arith; }
+one_nothing = record { share = omega arith; c0 = omega arith; c1 = omega arith; c2 = omega arith; p00 = omega arith; p01 = omega arith; p02 = omega arith; p11 = omega arith; p12 = omega arith; p22 = omega arith }
 
 one_shares_by : (u v : Bool) (T S : ℕ) → T ≤ 2 ^ 40 → S ≤ 2 ^ 40 → AreAtMostOne (shares_by false u v T S)
 one_shares_by false false T S t s = one_nothing
