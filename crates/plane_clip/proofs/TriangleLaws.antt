@@ -20,7 +20,7 @@ use Rattle.hull_model.specs.TriangleCut.{Triangle, triangle}
 use Rattle.hull_model.specs.WetMean.{Place, with_depths, share_of, wet_mean, linear_mean, product_mean, coordinate}
 use Rattle.plane_clip.specs.TriangleLaws.{wet_part, between, NoneBelow, NoneAbove, SomeAbove, IsCrossingAt, tip, ObeysLaws}
 use Rattle.plane_clip.proofs.ShareSplits.{share_first, share_middle, share_last, share-swapped, share-turned}
-use Rattle.plane_clip.proofs.WetSum.{IsLinearOn, N12, valued, form_at, twelve_at, form_first, form_middle, form_last, wet_part-form, wet_mean-form}
+use Rattle.plane_clip.proofs.WetSum.{IsLinearOn, N12, valued, form_at, twelve_at, form_first, form_middle, form_last, wet_part-form, wet_mean-part, wet_mean-form}
 
 pub twelve-twelfth : N12 ⊗ inverse N12 ≡ one
 twelve-twelfth = Bounds.mul-inverse_positive fractions (positive-whole 12 (omega arith))
@@ -121,6 +121,7 @@ module _ (mean : Triangle Place → Fraction) (f g : Place → Fraction) (f_line
 
   pub obeys_laws : ObeysLaws mean
   obeys_laws = record {
+    whole = λ h k l. sym (wet_mean-part mean f g f_linear g_linear is_twelfth h k l);
     split_first = λ t a b c low high. added t (triangle a b c) (triangle a (between t a b) c) (triangle (between t a b) b c) (form_first mean f g f_linear g_linear is_twelfth t a b c) (share_first t a b c (nonnegative t low) high);
     split_middle = λ t a b c low high. added t (triangle a b c) (triangle a b (between t a c)) (triangle (between t a c) b c) (form_middle mean f g f_linear g_linear is_twelfth t a b c) (share_middle t a b c (nonnegative t low) high);
     split_last = λ t a b c low high. added t (triangle a b c) (triangle a b (between t b c)) (triangle a (between t b c) c) (form_last mean f g f_linear g_linear is_twelfth t a b c) (share_last t a b c (nonnegative t low) high);

@@ -32,6 +32,8 @@ tip t s w = triangle w.a (between t w.a w.b) (between s w.a w.c)
 
 -- what holds of the mean of a function over the wet part
 pub record ObeysLaws (mean : Triangle Place → Fraction) : Type 0 where
+  -- over the whole triangle the sum is the wet mean
+  pub whole : (h k l : Fraction) → wet_part mean (with_depths h k l) ≡ wet_mean mean h k l
   -- a split at any point of any edge leaves the sum as it was
   pub split_first : (t : Fraction) (a b c : Place) → nought ≼ t → t ≼ one → wet_part mean (triangle a b c) ≡ wet_part mean (triangle a (between t a b) c) ⊕ wet_part mean (triangle (between t a b) b c)
   pub split_middle : (t : Fraction) (a b c : Place) → nought ≼ t → t ≼ one → wet_part mean (triangle a b c) ≡ wet_part mean (triangle a b (between t a c)) ⊕ wet_part mean (triangle (between t a c) b c)
