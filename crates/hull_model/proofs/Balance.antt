@@ -132,8 +132,16 @@ pub against-alternating : (t : Triangle Node) → HasArea t → IsAlternating wh
 against-alternating t area = record { turned = against-turned t; rotated = against-rotated t; flat = against-flat t area }
 
 -- ---- opposite faces
-abbrev IsOpposite : Triangle Node → Triangle Node → Type 0
+abbrev pub IsOpposite : Triangle Node → Triangle Node → Type 0
 IsOpposite f h = (h ≡ triangle f.b f.a f.c) ⊎ ((h ≡ triangle f.a f.c f.b) ⊎ (h ≡ triangle f.c f.b f.a))
+
+-- a face that isn't opposite to f isn't f the other way round
+pub not_opposite : (f h : Triangle Node) → (IsOpposite f h → ⊥) → is_face (turned f) h ≡ pos 0
+not_opposite f h differ = λ i. (no (order_by h f.b f.a f.c) (λ e. differ (inl e)) i +ℤ no (order_by h f.a f.c f.b) (λ e. differ (inr (inl e))) i) +ℤ no (order_by h f.c f.b f.a) (λ e. differ (inr (inr e))) i
+  where
+    no : {p q r : Node} → (h ≡ triangle p q r) × (in_order h p q r ≡ pos 1) ⊎ (in_order h p q r ≡ pos 0) → (h ≡ triangle p q r → ⊥) → in_order h p q r ≡ pos 0
+    no (inl e) differ = absurd (differ e.0)
+    no (inr e) differ = e
 
 in_order-nonnegative : (f : Triangle Node) (p q r : Node) → pos 0 ≤ℤ in_order f p q r
 in_order-nonnegative f p q r = go (in_order f p q r) (order_by f p q r)

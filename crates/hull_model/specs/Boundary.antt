@@ -48,6 +48,7 @@ AreBalanced faces others = (t : Triangle Node) → HasArea t → balance t faces
 -- the faces that are left of others after opposite ones cancel, but for those of no area
 pub record IsBoundary (faces others : List (Triangle Node)) : Type 0 where
   pub balanced : AreBalanced faces others
+  pub no_opposites : AllByRecursion (λ f. count (turned f) faces ≡ pos 0) faces
   pub areas : AllByRecursion HasArea faces
 
 -- ---- functions of triangles that boundaries are summed with

@@ -9,3 +9,5 @@ pub mod FaceSums
 pub mod Proper
 pub mod Lengths
 pub mod SixVolume
+pub mod Outward
+pub mod OutwardListed

@@ -12,11 +12,14 @@ use Rattle.hull_model.specs.declared.node.Node.{Node}
 use Rattle.hull_model.specs.declared.station.Station.{Station}
 use Rattle.hull_model.specs.declared.vector.Vector.{Vector}
 use Rattle.hull_model.specs.Lists.{Rises}
-use Rattle.hull_model.specs.Body.{IsStation}
+use Rattle.hull_model.specs.Body.{IsStation, IsHull}
 use Rattle.hull_model.specs.TriangleCut.{Triangle}
 use Rattle.hull_model.specs.Faces.{doubled_area, face_of, triangle_of}
-use Rattle.hull_model.specs.SignedFaces.{signed_faces}
-use Rattle.hull_model.specs.Boundary.{no_area, HasArea, sum_of, AreBalanced, IsBoundary, IsAlternating}
+use Rattle.hull_model.specs.SignedFaces.{turned, signed_faces}
+use Rattle.hull_model.specs.Submerged.{first_x, last_x}
+use Rattle.hull_polyhedron.proofs.Outward.{IsOutward, no_opposites}
+use Rattle.hull_polyhedron.proofs.OutwardListed.{middle_of, hull_outward}
+use Rattle.hull_model.specs.Boundary.{count, no_area, HasArea, sum_of, AreBalanced, IsBoundary, IsAlternating}
 use Rattle.hull_model.proofs.Balance.{against, against-alternating}
 use Rattle.hull_polyhedron.specs.Listed.{has_area, kept, listed}
 use Rattle.hull_polyhedron.proofs.Hulls.{signed_sum}
@@ -68,5 +71,23 @@ module _ (stations : List Station) (each : AllByRecursion IsStation stations) (r
   pub kept_areas : AllByRecursion HasArea (map triangle_of (kept (listed stations)))
   kept_areas = subst (AllByRecursion HasArea) (sym (triangles_of_faces (filter has_area (listed stations)))) (filtered_areas (listed stations))
 
-  pub kept_boundary : IsBoundary (map triangle_of (kept (listed stations))) (signed_faces stations)
-  kept_boundary = record { balanced = kept_balanced; areas = kept_areas }
+
+-- what points outwards where it has an area, among those of some area
+filtered_outward : (P : Triangle Node → Type 0) (ts : List (Triangle Node)) → AllByRecursion (λ t. HasArea t → P t) ts → AllByRecursion P (filter has_area ts)
+filtered_outward P [] all = tt
+filtered_outward P (t ∷ ts) all = go (has_area t) refl (filtered_outward P ts all.1)
+  where
+    go : (b : Bool) → has_area t ≡ b → AllByRecursion P (filter has_area ts) → AllByRecursion P (cond b (t ∷ filter has_area ts) (filter has_area ts))
+    go true e rest = (all.0 (area_by_test t e), rest)
+    go false e rest = rest
+
+pub kept_boundary : (stations : List Station) → IsHull stations → IsBoundary (map triangle_of (kept (listed stations))) (signed_faces stations)
+kept_boundary stations hull = record {
+  balanced = kept_balanced stations hull.each hull.places_rise;
+  no_opposites = subst (λ (ts : List (Triangle Node)). AllByRecursion (λ f. count (turned f) ts ≡ pos 0) ts) (sym (triangles_of_faces (filter has_area (listed stations))))
+      (no_opposites (middle_of stations) (first_x stations +ℤ last_x stations) (filter has_area (listed stations)) (filter has_area (listed stations)) outward outward);
+  areas = kept_areas stations hull.each hull.places_rise;
+}
+  where
+    outward : AllByRecursion (λ t. IsOutward (middle_of stations) (first_x stations +ℤ last_x stations) t) (filter has_area (listed stations))
+    outward = filtered_outward (λ t. IsOutward (middle_of stations) (first_x stations +ℤ last_x stations) t) (listed stations) (hull_outward stations hull)

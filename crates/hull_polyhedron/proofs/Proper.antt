@@ -71,7 +71,7 @@ zipper_proper p (n ∷ aft) q fore bp broad_aft bq broad k aft_climbs climbs =
     advance_proper p n (zipper n aft) bp broad_aft.0 aft_climbs.0 aft_climbs.1
     (λ q fore bq broad k climbs. zipper_proper n aft q fore broad_aft.0 broad_aft.1 bq broad k aft_climbs.2 climbs) q fore bq broad k climbs
 
-broad_nodes : (x : ℤ) (points : List Point) → AllByRecursion IsPoint points → AllByRecursion IsBroad (map (node_at x) points)
+pub broad_nodes : (x : ℤ) (points : List Point) → AllByRecursion IsPoint points → AllByRecursion IsBroad (map (node_at x) points)
 broad_nodes x [] all = tt
 broad_nodes x (p ∷ points) all = (all.0.breadth.0, broad_nodes x points all.1)
 

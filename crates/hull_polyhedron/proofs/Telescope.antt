@@ -18,7 +18,7 @@ abbrev pub Climbs : Node → List Node → Type 0
 Climbs p [] = Unit {0}
 Climbs p (q ∷ rest) = (q.x ≡ p.x) × (p.z <ℤ q.z) × Climbs q rest
 
-product_positive : (m n : ℤ) → pos 0 <ℤ m → pos 0 <ℤ n → pos 0 <ℤ (m *ℤ n)
+pub product_positive : (m n : ℤ) → pos 0 <ℤ m → pos 0 <ℤ n → pos 0 <ℤ (m *ℤ n)
 product_positive (pos zero) n h k = absurd (omega (arith, ints))
 product_positive (negsuc m) n h k = absurd (omega (arith, ints))
 product_positive (pos (suc m)) (pos zero) h k = absurd (omega (arith, ints))

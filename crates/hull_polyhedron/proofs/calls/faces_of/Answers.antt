@@ -30,7 +30,7 @@ returns c =
     let last = simp to_z-of_z at c.assembled.ensures.last_x in
     subst (λ (stations : List Station). AreFacesOf stations c.assembled.result) c.stations-stations.ensures.same (record {
       boundary = subst (λ (fs : List Face). IsBoundary (map triangle_of fs) (signed_faces c.stations-stations.result.now)) (sym (c.assembled.ensures.list ∙ c.in_ok-list.ensures))
-          (kept_boundary c.stations-stations.result.now hull.each hull.places_rise);
+          (kept_boundary c.stations-stations.result.now hull);
       first_x = first ∙ c.first_x_of.ensures;
       last_x = last ∙ c.last_x_of.ensures;
       low_z = subst (λ (n : ℤ). IsLeast (λ p. p.z) c.stations-stations.result.now n) (sym c.assembled.ensures.low_z) c.extent_of-extent.ensures.low_z;
