@@ -1,12 +1,12 @@
 -- Faces that cancel: the balance of faces is alternating, and lists that are balanced have equal sums of each alternating function.
-use Rattle.std.proofs.Common.{ℕ, zero, suc, ◌+◌, ◌<◌, ◌≤◌, ◌≡◌, refl, sym, ◌∙◌, ap, ap₂, List, [], ◌∷◌, ◌++◌, map, length, Bool, true, false, ℤ, pos, negsuc, ◌+ℤ◌, ◌-ℤ◌, ◌*ℤ◌, neg_ℤ, ◌<ℤ◌, ◌≤ℤ◌, arith}
+use Rattle.std.proofs.Common.{ℕ, zero, suc, ◌≤◌, ◌≡◌, refl, sym, ◌∙◌, ap, ap₂, List, [], ◌∷◌, ◌++◌, map, length, Bool, true, false, ℤ, pos, ◌+ℤ◌, ◌-ℤ◌, ◌*ℤ◌, neg_ℤ, ◌<ℤ◌, ◌≤ℤ◌, arith}
 use mathlib.Core.Logic.{◌⊎◌, inl, inr, ◌≢◌}
 use mathlib.Core.Path.{subst}
 use Rattle.std.proofs.lemmas.Int.{ints}
 use Rattle.std.specs.Prelude.{cond, ◌&&◌}
 use Rattle.std.specs.Ordering.{int_eq}
 use Rattle.exact_algebra.specs.Expression.{Expression, var, unit, number, ◌:+◌, ◌:-◌, ◌:*◌, opposite}
-use Rattle.exact_algebra.specs.Ring.{Operations, IsCommutativeRing, CommutativeRing, whole_numbers}
+use Rattle.exact_algebra.specs.Ring.{Operations, CommutativeRing, whole_numbers}
 use Rattle.exact_algebra.proofs.Ring.{ring, ring_from, none, given}
 use Rattle.exact_algebra.proofs.WholeNumbers.{integers}
 use Rattle.hull_model.specs.declared.node.Node.{Node}
@@ -14,7 +14,7 @@ use Rattle.hull_model.specs.declared.vector.Vector.{Vector}
 use Rattle.hull_model.specs.TriangleCut.{Triangle, triangle}
 use Rattle.hull_model.specs.Faces.{doubled_area}
 use Rattle.hull_model.specs.SignedFaces.{turned}
-use Rattle.hull_model.specs.Boundary.{no_area, HasArea, same_node, in_order, is_face, sum_of, balance, AreBalanced, IsAlternating, sum_in, BalancedListsHaveEqualSums}
+use Rattle.hull_model.specs.Boundary.{no_area, HasArea, same_node, in_order, is_face, sum_of, IsAlternating, sum_in, BalancedListsHaveEqualSums}
 
 -- ---- whether nodes and triangles are the same
 same_by : (p q : Node) → (p ≡ q) × (same_node p q ≡ pos 1) ⊎ (same_node p q ≡ pos 0)

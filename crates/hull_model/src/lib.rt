@@ -17,7 +17,10 @@ mod zipper;
 
 pub use face::Face;
 pub use hull::Hull;
-pub use laws::{balanced_lists_have_equal_sums, no_edge_is_left_to_split, nothing_is_left_to_split, worked_values};
+pub use laws::{
+    balanced_lists_have_equal_sums, no_edge_is_left_to_split, nothing_is_left_to_split,
+    worked_values,
+};
 pub use node::Node;
 pub use opening::Opening;
 pub use point::Point;

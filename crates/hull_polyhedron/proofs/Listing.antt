@@ -71,7 +71,6 @@ module _ (stations : List Station) (each : AllByRecursion IsStation stations) (r
   pub kept_areas : AllByRecursion HasArea (map triangle_of (kept (listed stations)))
   kept_areas = subst (AllByRecursion HasArea) (sym (triangles_of_faces (filter has_area (listed stations)))) (filtered_areas (listed stations))
 
-
 -- what points outwards where it has an area, among those of some area
 filtered_outward : (P : Triangle Node → Type 0) (ts : List (Triangle Node)) → AllByRecursion (λ t. HasArea t → P t) ts → AllByRecursion P (filter has_area ts)
 filtered_outward P [] all = tt

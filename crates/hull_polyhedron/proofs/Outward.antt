@@ -1,17 +1,17 @@
 -- No face of the boundary is another the other way round: each points outwards, by a sum over its corners that doesn't depend on their order.
-use Rattle.std.proofs.Common.{ℕ, zero, suc, ◌≡◌, refl, sym, ◌∙◌, ap, ap₂, List, [], ◌∷◌, ◌++◌, map, Bool, true, false, ℤ, pos, negsuc, ◌+ℤ◌, ◌-ℤ◌, ◌*ℤ◌, neg_ℤ, ◌≤ℤ◌, ◌<ℤ◌, arith}
-use mathlib.Core.Logic.{◌⊎◌, inl, inr, ◌≢◌}
+use Rattle.std.proofs.Common.{◌≡◌, refl, ◌∙◌, ap, ap₂, List, [], ◌∷◌, ℤ, pos, ◌+ℤ◌, ◌-ℤ◌, ◌*ℤ◌, neg_ℤ, ◌<ℤ◌, arith}
+use mathlib.Core.Logic.{inl, inr}
 use Rattle.std.proofs.lemmas.Int.{ints}
 use Rattle.std.specs.List.{AllByRecursion}
-use Rattle.exact_algebra.specs.Expression.{Expression, var, number, ◌:+◌, ◌:-◌, ◌:*◌, opposite}
-use Rattle.exact_algebra.proofs.Ring.{ring, ring_from, none, given}
+use Rattle.exact_algebra.specs.Expression.{var, number, ◌:+◌, ◌:*◌, opposite}
+use Rattle.exact_algebra.proofs.Ring.{ring}
 use Rattle.exact_algebra.proofs.WholeNumbers.{integers}
 use Rattle.hull_model.specs.declared.node.Node.{Node}
 use Rattle.hull_model.specs.declared.vector.Vector.{Vector}
 use Rattle.hull_model.specs.TriangleCut.{Triangle, triangle}
 use Rattle.hull_model.specs.Faces.{doubled_area}
 use Rattle.hull_model.specs.SignedFaces.{turned}
-use Rattle.hull_model.specs.Boundary.{sum_of, count, is_face, in_order}
+use Rattle.hull_model.specs.Boundary.{count}
 use Rattle.hull_model.proofs.Balance.{IsOpposite, not_opposite, area_turned, area_rotated}
 
 -- the sum of a number over the corners

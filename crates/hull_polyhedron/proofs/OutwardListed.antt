@@ -1,5 +1,5 @@
 -- Each listed triangle of some area points outwards.
-use Rattle.std.proofs.Common.{ℕ, zero, suc, ◌+◌, ◌<◌, ◌≤◌, ◌≡◌, refl, sym, ◌∙◌, ap, ap₂, List, [], ◌∷◌, ◌++◌, map, length, take, ◌-◌, Bool, true, false, ℤ, pos, negsuc, ◌+ℤ◌, ◌-ℤ◌, ◌*ℤ◌, neg_ℤ, ◌≤ℤ◌, ◌<ℤ◌, arith}
+use Rattle.std.proofs.Common.{ℕ, zero, suc, ◌≤◌, ◌≡◌, refl, sym, ◌∙◌, ap, ap₂, List, [], ◌∷◌, ◌++◌, map, length, take, ◌-◌, Bool, true, false, ℤ, pos, negsuc, ◌+ℤ◌, ◌-ℤ◌, ◌*ℤ◌, neg_ℤ, ◌≤ℤ◌, ◌<ℤ◌, arith}
 use mathlib.Core.Logic.{◌⊎◌, inl, inr, ◌≢◌}
 use mathlib.Core.Path.{subst}
 use Rattle.std.proofs.lemmas.Int.{ints}
@@ -7,7 +7,7 @@ use Rattle.std.specs.Prelude.{not, ◌&&◌, int_lt, if◌then◌else◌}
 use Rattle.std.specs.Ordering.{int_eq}
 use Rattle.std.specs.List.{flat_map, AllByRecursion}
 use Rattle.exact_algebra.specs.Expression.{Expression, var, number, ◌:+◌, ◌:-◌, ◌:*◌, opposite}
-use Rattle.exact_algebra.proofs.Ring.{ring, ring_from, none, given}
+use Rattle.exact_algebra.proofs.Ring.{ring}
 use Rattle.exact_algebra.proofs.WholeNumbers.{integers}
 use Rattle.hull_model.specs.declared.node.Node.{Node}
 use Rattle.hull_model.specs.declared.vector.Vector.{Vector}
@@ -20,7 +20,7 @@ use Rattle.hull_model.specs.Zipper.{chain, between_stations}
 use Rattle.hull_model.specs.Submerged.{first_x, last_x}
 use Rattle.hull_model.specs.TriangleCut.{Triangle, triangle}
 use Rattle.hull_model.specs.Faces.{doubled_area}
-use Rattle.hull_model.specs.SignedFaces.{turned, turn, turns_back}
+use Rattle.hull_model.specs.SignedFaces.{turn, turns_back}
 use Rattle.hull_model.specs.Boundary.{no_area, HasArea}
 use Rattle.hull_model.proofs.Balance.{area_turned}
 use Rattle.hull_polyhedron.specs.Listed.{turned_unless, mirrored_triangle, is_on_centreplane, sides, wall, highest, end_wall, bottom, top, strip, strips, first_end, last_end, listed}
@@ -101,9 +101,12 @@ module _ (middle : ℤ → ℤ) (centre : ℤ) where
       go true e = tt
       go false e = (
         (λ area. side (positive_product (with_sign b (neg_ℤ (turn t))) breadth (y_unless b t (area_y t)) (corners_unless (λ n. n.y) b t) (positive e))),
-        ((λ area. side (positive_product (with_sign (not b) (neg_ℤ (turn t))) (neg_ℤ breadth) (y_unless (not b) (mirrored_triangle t) (area_y t))
-            (corners_unless (λ n. n.y) (not b) (mirrored_triangle t) ∙ port_breadth)
-            (subst (λ (n : ℤ). pos 0 <ℤ n) (sym (other b (neg_ℤ (turn t)) breadth)) (positive e)))), tt),
+        (
+          (λ area. side (positive_product (with_sign (not b) (neg_ℤ (turn t))) (neg_ℤ breadth) (y_unless (not b) (mirrored_triangle t) (area_y t))
+              (corners_unless (λ n. n.y) (not b) (mirrored_triangle t) ∙ port_breadth)
+              (subst (λ (n : ℤ). pos 0 <ℤ n) (sym (other b (neg_ℤ (turn t)) breadth)) (positive e)))),
+          tt,
+        ),
       )
 
   -- ---- walls
@@ -182,20 +185,32 @@ module _ (middle : ℤ → ℤ) (centre : ℤ) where
   unfolding wall
   wall_parts b p q bp bq =
       let first : IsPart b (run p q) (rise p q) p q (turned_unless b (triangle (foot p) (foot q) q)) = record {
-        y = q.y; broad = bq; area = area_unless b (triangle (foot p) (foot q) q) ∙ ap (signed_vector b) (first_area p q) ∙ straight b (run p q) (rise p q) q.y;
-        heights = inl (corners_unless (height_of middle centre) b (triangle (foot p) (foot q) q)); places = inl (corners_unless (place_of middle centre) b (triangle (foot p) (foot q) q));
+        y = q.y;
+        broad = bq;
+        area = area_unless b (triangle (foot p) (foot q) q) ∙ ap (signed_vector b) (first_area p q) ∙ straight b (run p q) (rise p q) q.y;
+        heights = inl (corners_unless (height_of middle centre) b (triangle (foot p) (foot q) q));
+        places = inl (corners_unless (place_of middle centre) b (triangle (foot p) (foot q) q));
       } in
       let second : IsPart b (run p q) (rise p q) p q (turned_unless (not b) (triangle (foot p) p q)) = record {
-        y = p.y; broad = bp; area = area_unless (not b) (triangle (foot p) p q) ∙ ap (signed_vector (not b)) (second_area p q) ∙ combined b (run p q) (rise p q) p.y;
-        heights = inr (corners_unless (height_of middle centre) (not b) (triangle (foot p) p q)); places = inr (corners_unless (place_of middle centre) (not b) (triangle (foot p) p q));
+        y = p.y;
+        broad = bp;
+        area = area_unless (not b) (triangle (foot p) p q) ∙ ap (signed_vector (not b)) (second_area p q) ∙ combined b (run p q) (rise p q) p.y;
+        heights = inr (corners_unless (height_of middle centre) (not b) (triangle (foot p) p q));
+        places = inr (corners_unless (place_of middle centre) (not b) (triangle (foot p) p q));
       } in
       let third : IsPart b (run p q) (rise p q) p q (turned_unless (not b) (triangle (foot p) (foot q) (mirrored q))) = record {
-        y = q.y; broad = bq; area = area_unless (not b) (triangle (foot p) (foot q) (mirrored q)) ∙ ap (signed_vector (not b)) (third_area p q) ∙ combined b (run p q) (rise p q) q.y;
-        heights = inl (corners_unless (height_of middle centre) (not b) (triangle (foot p) (foot q) (mirrored q))); places = inl (corners_unless (place_of middle centre) (not b) (triangle (foot p) (foot q) (mirrored q)));
+        y = q.y;
+        broad = bq;
+        area = area_unless (not b) (triangle (foot p) (foot q) (mirrored q)) ∙ ap (signed_vector (not b)) (third_area p q) ∙ combined b (run p q) (rise p q) q.y;
+        heights = inl (corners_unless (height_of middle centre) (not b) (triangle (foot p) (foot q) (mirrored q)));
+        places = inl (corners_unless (place_of middle centre) (not b) (triangle (foot p) (foot q) (mirrored q)));
       } in
       let fourth : IsPart b (run p q) (rise p q) p q (turned_unless b (triangle (foot p) (mirrored p) (mirrored q))) = record {
-        y = p.y; broad = bp; area = area_unless b (triangle (foot p) (mirrored p) (mirrored q)) ∙ ap (signed_vector b) (fourth_area p q) ∙ straight b (run p q) (rise p q) p.y;
-        heights = inr (corners_unless (height_of middle centre) b (triangle (foot p) (mirrored p) (mirrored q))); places = inr (corners_unless (place_of middle centre) b (triangle (foot p) (mirrored p) (mirrored q)));
+        y = p.y;
+        broad = bp;
+        area = area_unless b (triangle (foot p) (mirrored p) (mirrored q)) ∙ ap (signed_vector b) (fourth_area p q) ∙ straight b (run p q) (rise p q) p.y;
+        heights = inr (corners_unless (height_of middle centre) b (triangle (foot p) (mirrored p) (mirrored q)));
+        places = inr (corners_unless (place_of middle centre) b (triangle (foot p) (mirrored p) (mirrored q)));
       } in
       (first, (second, (third, (fourth, tt))))
 
@@ -387,9 +402,10 @@ module _ (middle : ℤ → ℤ) (centre : ℤ) where
   walls_of_strip x y (o ∷ os) [] all all' rises rises' less m m' some = (tt, tt)
   walls_of_strip x y (o ∷ os) (p ∷ ps) all all' rises rises' less m m' some =
       let up : Climbs (node_at x o) (map (node_at x) os) = climbs x o os rises in
-      let up' : Climbs (node_at y p) (map (node_at y) ps) = climbs y p ps rises' in
-      (bottom_outward (node_at x o) (node_at y p) (map (node_at x) os) (map (node_at y) ps) all.0.breadth.0 all'.0.breadth.0 up up' less (m o os refl) (m' p ps refl) (fewer some),
-       top_outward (node_at x o) (node_at y p) (map (node_at x) os) (map (node_at y) ps) all.0.breadth.0 all'.0.breadth.0 (broad_nodes x os all.1) (broad_nodes y ps all'.1) up up' less (m o os refl) (m' p ps refl) (fewer some))
+      let up' : Climbs (node_at y p) (map (node_at y) ps) = climbs y p ps rises' in (
+        bottom_outward (node_at x o) (node_at y p) (map (node_at x) os) (map (node_at y) ps) all.0.breadth.0 all'.0.breadth.0 up up' less (m o os refl) (m' p ps refl) (fewer some),
+        top_outward (node_at x o) (node_at y p) (map (node_at x) os) (map (node_at y) ps) all.0.breadth.0 all'.0.breadth.0 (broad_nodes x os all.1) (broad_nodes y ps all'.1) up up' less (m o os refl) (m' p ps refl) (fewer some),
+      )
     where
       one_less : {A B : Type 0} (f : A → B) (xs : List A) → 2 ≤ suc (length xs) → 1 ≤ length (map f xs)
       one_less f [] h = absurd (omega arith)
