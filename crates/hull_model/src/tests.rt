@@ -1,4 +1,7 @@
+mod plain;
+
 use crate::{Hull, Point, Points, Station, six_of, tets_of};
+use plain::{Fraction, Plane, submerged};
 use std::alloc::{AllocError, Global};
 use std::test::Fail;
 
@@ -75,5 +78,34 @@ fn the_barge_has_24_tetrahedra(rt: HostRuntime) -> Result<(), Fail> {
         sum = i128::wrapping_add(sum, six_of(t));
     }
     assert_eq!(rt; sum, 120000000000000);
+    Ok(())
+}
+
+#[test]
+fn the_plain_program_gives_the_worked_values(rt: HostRuntime) -> Result<(), Fail> {
+    let wedge: &[(i64, i64)] = &[(0, 0), (10000, 10000)];
+    for (offsets, c, s, r, level, over, volume, mu) in [
+        (BARGE, 1, 0, 1, 5000, 1, 10000000000000, 25000000000000000),
+        (BARGE, 1, 0, 1, 10000, 1, 20000000000000, 100000000000000000),
+        (BARGE, 1, 0, 1, 0, 1, 0, 0),
+        (wedge, 1, 0, 1, 5000, 1, 2500000000000, 8333333333333333),
+        (BARGE, 12, 5, 13, 60000, 13, 10000000000000, 17735042735042735),
+    ] {
+        let stations = stations_of(rt.alloc(), &[0, 50000, 100000], offsets)?;
+        let hull = Hull::of(stations).expect(&rt, "a hull");
+        let height = Fraction::new(level, over).expect(&rt, "a level");
+        let plane = Plane {
+            c,
+            s,
+            r,
+            a: height,
+            f: height,
+            first: 0,
+            last: 100000,
+        };
+        let all = submerged(rt.alloc(), &hull, plane).expect(&rt, "128 bits suffice");
+        assert_eq!(rt; all.volume, Fraction::whole(volume), "{c} {level}");
+        assert_eq!(rt; all.mu.floor(), Some(mu), "{c} {level}");
+    }
     Ok(())
 }
