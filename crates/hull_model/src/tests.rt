@@ -89,7 +89,16 @@ fn the_plain_program_gives_the_worked_values(rt: HostRuntime) -> Result<(), Fail
         (BARGE, 1, 0, 1, 10000, 1, 20000000000000, 100000000000000000),
         (BARGE, 1, 0, 1, 0, 1, 0, 0),
         (wedge, 1, 0, 1, 5000, 1, 2500000000000, 8333333333333333),
-        (BARGE, 12, 5, 13, 60000, 13, 10000000000000, 17735042735042735),
+        (
+            BARGE,
+            12,
+            5,
+            13,
+            60000,
+            13,
+            10000000000000,
+            17735042735042735,
+        ),
     ] {
         let stations = stations_of(rt.alloc(), &[0, 50000, 100000], offsets)?;
         let hull = Hull::of(stations).expect(&rt, "a hull");

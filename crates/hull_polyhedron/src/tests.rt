@@ -1,5 +1,5 @@
 use crate::{Faces, faces_of, six_volume};
-use hull_model::{Hull, Point, Points, Station};
+use hull_model::{Hull, Point, Points, Station, tets_of};
 use std::alloc::Global;
 use std::test::Fail;
 
@@ -54,16 +54,21 @@ fn hull_of(alloc: Global, text: &str) -> Result<Option<Hull>, Fail> {
     Ok(Hull::of(stations))
 }
 
-fn faces_in(alloc: Global, text: &str) -> Result<Option<Faces>, Fail> {
+// The number of tetrahedra, and the boundary.
+fn counted(alloc: Global, text: &str) -> Result<Option<(usize, Faces)>, Fail> {
     match hull_of(alloc, text)? {
-        Some(hull) => Ok(Some(faces_of(alloc, &hull)?)),
+        Some(hull) => {
+            let count = tets_of(alloc, &hull)?.len();
+            Ok(Some((count, faces_of(alloc, &hull)?)))
+        }
         None => Ok(None),
     }
 }
 
 #[test]
 fn the_barge_has_32_faces(rt: HostRuntime) -> Result<(), Fail> {
-    let faces = faces_in(rt.alloc(), BARGE)?.expect(&rt, "a hull");
+    let (count, faces) = counted(rt.alloc(), BARGE)?.expect(&rt, "a hull");
+    assert_eq!(rt; count, 24);
     assert_eq!(rt; faces.list().len(), 32);
     assert_eq!(rt; six_volume(&faces), 120000000000000);
     assert_eq!(rt; (faces.first_x(), faces.last_x()), (0, 100000));
@@ -74,7 +79,8 @@ fn the_barge_has_32_faces(rt: HostRuntime) -> Result<(), Fail> {
 
 #[test]
 fn the_cargo_ship_has_548_faces(rt: HostRuntime) -> Result<(), Fail> {
-    let faces = faces_in(rt.alloc(), CARGO)?.expect(&rt, "a hull");
+    let (count, faces) = counted(rt.alloc(), CARGO)?.expect(&rt, "a hull");
+    assert_eq!(rt; count, 1170);
     assert_eq!(rt; faces.list().len(), 548);
     assert_eq!(rt; six_volume(&faces), 101283500000000);
     assert_eq!(rt; (faces.first_x(), faces.last_x()), (0, 102000));
