@@ -19,3 +19,4 @@ pub mod Worked
 pub mod Section
 pub mod Stations
 pub mod WetMean
+pub mod TriangleLaws

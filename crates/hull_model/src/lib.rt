@@ -19,6 +19,7 @@ pub use face::Face;
 pub use hull::Hull;
 pub use laws::{
     balanced_lists_have_equal_sums, no_edge_is_left_to_split, nothing_is_left_to_split,
+    wet_depth_rises_by_at_most_the_greatest_rise, wet_means_obey_the_laws, wet_means_rise,
     worked_values,
 };
 pub use node::Node;

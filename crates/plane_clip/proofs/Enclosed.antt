@@ -19,7 +19,7 @@ use Rattle.exact_algebra.proofs.Span.{ContainsFraction, positive-unit}
 use Rattle.plane_clip.specs.declared.shares.Shares.{Shares}
 use Rattle.plane_clip.specs.Rounded.{Near, DepthEnds, share_ends, depth_ends, SharesOrdered}
 use Rattle.plane_clip.specs.Enclosure.{in_unit}
-use Rattle.plane_clip.proofs.MeanKinds.{Kind, share_kind, corner_kind, pair_kind, depth_kind, weighted_kind, mean_at, kind_rises}
+use Rattle.hull_model.proofs.MeanKinds.{Kind, share_kind, corner_kind, pair_kind, depth_kind, weighted_kind, mean_at, kind_rises}
 use Rattle.plane_clip.proofs.RoundedShares.{AreRoundedShares, rounded_shares}
 use Rattle.plane_clip.proofs.RoundedDepths.{AreRoundedDepths, rounded_depths}
 use Rattle.plane_clip.proofs.Spread.{tight_shares, tight_depths}

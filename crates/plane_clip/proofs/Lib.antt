@@ -1,10 +1,3 @@
-pub mod CutInduction
-pub mod ShareSplits
-pub mod WetSum
-pub mod TriangleLaws
-pub mod Rising
-pub mod GreatestRise
-pub mod MeanKinds
 pub mod TipValues
 pub mod PartSteps
 pub mod RoundedBounds

@@ -20,7 +20,7 @@ use Rattle.exact_algebra.proofs.Order as Order
 use Rattle.exact_algebra.proofs.Order.{order_from, no_more, at_most, scaled, equal}
 use Rattle.exact_algebra.proofs.WetForm as Form
 use Rattle.plane_clip.specs.Rounded.{is_over, cube, bound, rest, part, part_by, quotient_of_sum, Tip, depth_tip, no_tip, DepthEnds, sum_of, depths_from, depths_by, first_depths, second_depths, third_depths, depths_in_turn, depth_ends}
-use Rattle.plane_clip.proofs.MeanKinds.{depth_kind, weighted_kind, mean_at, kind_turn, depth_turn, weighted_turn0, weighted_turn1, weighted_turn2}
+use Rattle.hull_model.proofs.MeanKinds.{depth_kind, weighted_kind, mean_at, kind_turn, depth_turn, weighted_turn0, weighted_turn1, weighted_turn2}
 use Rattle.plane_clip.proofs.TipValues.{dry_value, wet_value, when_one, when_two, depth_whole, weighted0_whole, weighted1_whole, weighted2_whole, depth_values, weighted0_values, weighted1_values, weighted2_values}
 use Rattle.plane_clip.proofs.RoundedBounds.{N, same, BoundAt, scale-bound, cube-bound, bound-add, bound-one, bound-twice, IsPartOf, bound-part, bound-rest}
 use Rattle.plane_clip.proofs.Crossings.{over-whole, whole-over, whole-under, crossing_down, crossing_up}

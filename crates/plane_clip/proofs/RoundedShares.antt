@@ -20,7 +20,7 @@ use Rattle.exact_algebra.proofs.Order.{order_from, no_more, at_most, scaled, equ
 use Rattle.exact_algebra.proofs.WetForm as Form
 use Rattle.plane_clip.specs.declared.shares.Shares.{Shares}
 use Rattle.plane_clip.specs.Rounded.{is_over, not, scale, quotient, bound, rest, part, part_by, tip_shares, tip_at, nothing, tip_ends, rest_ends, shares_by, first_shares, second_shares, third_shares, shares_in_turn, share_ends}
-use Rattle.plane_clip.proofs.MeanKinds.{Kind, share_kind, corner_kind, pair_kind, mean_at, kind_nonnegative, kind_turn, pair_swap, share_turn, corner_turn0, corner_turn1, corner_turn2, pair_turn00, pair_turn01, pair_turn02, pair_turn11, pair_turn12, pair_turn22}
+use Rattle.hull_model.proofs.MeanKinds.{Kind, share_kind, corner_kind, pair_kind, mean_at, kind_nonnegative, kind_turn, pair_swap, share_turn, corner_turn0, corner_turn1, corner_turn2, pair_turn00, pair_turn01, pair_turn02, pair_turn11, pair_turn12, pair_turn22}
 use Rattle.plane_clip.proofs.TipValues.{dry_value, wet_value, when_one, when_two, share_whole, corner0_whole, corner1_whole, corner2_whole, pair00_whole, pair01_whole, pair02_whole, pair11_whole, pair12_whole, pair22_whole, share_values, corner0_values, corner1_values, corner2_values, pair00_values, pair01_values, pair02_values, pair11_values, pair12_values, pair22_values}
 use Rattle.plane_clip.proofs.RoundedBounds.{NonNegative, N, P40, N-add, N-mul, N_le, same, Bound, bound-mul, bound-add, bound-twice, bound-one, bound-nought, IsPartOf, bound-part, bound-rest}
 use Rattle.plane_clip.proofs.Crossings.{over-whole, crossing_down, crossing_up}

@@ -12,9 +12,9 @@ use Rattle.exact_algebra.proofs.Ring.{ring, ring_from, none, given}
 use Rattle.exact_algebra.proofs.Fraction.{Fraction, nought, one, ◌⊕◌, ◌⊗◌, ◌⊖◌, fractions, fraction_ring}
 use Rattle.exact_algebra.proofs.Whole.{whole, whole-add, whole-mul, whole-nought, whole-one}
 use Rattle.exact_algebra.proofs.WetForm as Form
-use Rattle.plane_clip.proofs.WetSum.{N12}
-use Rattle.plane_clip.proofs.TriangleLaws.{by_twelve}
-use Rattle.plane_clip.proofs.MeanKinds.{Kind, share_kind, corner_kind, pair_kind, depth_kind, weighted_kind, first_place, second_place, third_place, value, mean_at, kind_form}
+use Rattle.hull_model.proofs.WetSum.{N12}
+use Rattle.hull_model.proofs.TriangleLaws.{by_twelve}
+use Rattle.hull_model.proofs.MeanKinds.{Kind, share_kind, corner_kind, pair_kind, depth_kind, weighted_kind, first_place, second_place, third_place, value, mean_at, kind_form}
 
 after : (n : ℕ) → suc n ≡ 1 + n
 after n = omega arith

@@ -1,3 +1,2 @@
-pub mod TriangleLaws
 pub mod Rounded
 pub mod Enclosure

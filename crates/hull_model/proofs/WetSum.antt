@@ -21,9 +21,9 @@ use Rattle.hull_model.specs.Fractions.{interpolated, sum_over}
 use Rattle.hull_model.specs.TriangleCut.{Triangle, triangle, Split, uncut, parts, are_opposite, is_kept_by, side, crossing, split_by, split, pieces, is_kept, kept_pieces}
 use Rattle.hull_model.specs.WetMean.{Place, places, with_depths, share_of, wet_mean}
 use Rattle.hull_model.proofs.TriangleCut.{IsLinear, pieces_uncut}
-use Rattle.plane_clip.specs.TriangleLaws.{wet_part, between}
-use Rattle.plane_clip.proofs.CutInduction.{NoneBelow, NoneAbove, one_side, inside, crossing_parameter, cut_induction}
-use Rattle.plane_clip.proofs.ShareSplits.{sum_over-append, sum_over-one, sum_over-none, share_first, share_middle, share_last, share-whole}
+use Rattle.hull_model.specs.TriangleLaws.{wet_part, between}
+use Rattle.hull_model.proofs.CutInduction.{NoneBelow, NoneAbove, one_side, inside, crossing_parameter, cut_induction}
+use Rattle.hull_model.proofs.ShareSplits.{sum_over-append, sum_over-one, sum_over-none, share_first, share_middle, share_last, share-whole}
 
 pub linear : IsLinear places
 linear t p q = refl

@@ -18,10 +18,10 @@ use Rattle.hull_model.specs.Fractions.{interpolated}
 use Rattle.hull_model.specs.TriangleCut.{Triangle, triangle, Corners, is_kept_by, are_opposite, side, crossing}
 use Rattle.hull_model.specs.WetMean.{Place, with_depths, product_mean, coordinate, wet_mean}
 use Rattle.hull_model.proofs.TriangleCut.{IsLinear}
-use Rattle.plane_clip.specs.TriangleLaws.{between}
-use Rattle.plane_clip.proofs.CutInduction.{IsInside, one_side, inside, crossing_parameter, cut_induction}
-use Rattle.plane_clip.proofs.WetSum.{IsLinearOn, N12, valued, form_at, twelve_at, form_first, form_middle, form_last, wet_mean-form, kept_none_below, not_all_level, not_kept_either}
-use Rattle.plane_clip.proofs.TriangleLaws.{constant, constant_linear, depth_at, depth_linear, coordinate_linear, product-twelfth}
+use Rattle.hull_model.specs.TriangleLaws.{between}
+use Rattle.hull_model.proofs.CutInduction.{IsInside, one_side, inside, crossing_parameter, cut_induction}
+use Rattle.hull_model.proofs.WetSum.{IsLinearOn, N12, valued, form_at, twelve_at, form_first, form_middle, form_last, wet_mean-form, kept_none_below, not_all_level, not_kept_either}
+use Rattle.hull_model.proofs.TriangleLaws.{constant, constant_linear, depth_at, depth_linear, coordinate_linear, product-twelfth}
 
 abbrev NonNegative : Fraction → Type 0
 NonNegative x = sign x ≢ below

@@ -10,9 +10,9 @@ use Rattle.exact_algebra.specs.OrderedField.{below}
 use Rattle.exact_algebra.proofs.WetForm as Form
 use Rattle.hull_model.specs.TriangleCut.{Triangle}
 use Rattle.hull_model.specs.WetMean.{Place, linear_mean, product_mean, coordinate, wet_mean}
-use Rattle.plane_clip.proofs.WetSum.{N12, valued, twelve_at, wet_mean-form}
-use Rattle.plane_clip.proofs.TriangleLaws.{by_twelve, constant, depth_at, share-twelfth, linear-twelfth, product-twelfth}
-use Rattle.plane_clip.proofs.Rising.{IsWeight, IsRising, constant_weight, coordinate_weight, rising_weight, depth_rising, mean_rises, mean_nonnegative}
+use Rattle.hull_model.proofs.WetSum.{N12, valued, twelve_at, wet_mean-form}
+use Rattle.hull_model.proofs.TriangleLaws.{by_twelve, constant, depth_at, share-twelfth, linear-twelfth, product-twelfth}
+use Rattle.hull_model.proofs.Rising.{IsWeight, IsRising, constant_weight, coordinate_weight, rising_weight, depth_rising, mean_rises, mean_nonnegative}
 
 pub record Kind : Type 0 where
   pub mean : Triangle Place → Fraction

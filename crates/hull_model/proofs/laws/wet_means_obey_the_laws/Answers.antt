@@ -1,5 +1,5 @@
-use Rattle.plane_clip.proofs.TriangleLaws.{share_laws, corner_laws, pair_laws, depth_laws, weighted_laws}
-use Rattle.plane_clip.proofs.laws.wet_means_obey_the_laws.Goals as goal
+use Rattle.hull_model.proofs.TriangleLaws.{share_laws, corner_laws, pair_laws, depth_laws, weighted_laws}
+use Rattle.hull_model.proofs.laws.wet_means_obey_the_laws.Goals as goal
 
 pub returns-clause-share : goal.returns-clause-share
 returns-clause-share c = share_laws

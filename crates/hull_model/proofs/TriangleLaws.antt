@@ -18,9 +18,9 @@ use Rattle.exact_algebra.proofs.WetForm as Form
 use Rattle.exact_algebra.proofs.DividedDifference as Over
 use Rattle.hull_model.specs.TriangleCut.{Triangle, triangle}
 use Rattle.hull_model.specs.WetMean.{Place, with_depths, share_of, wet_mean, linear_mean, product_mean, coordinate}
-use Rattle.plane_clip.specs.TriangleLaws.{wet_part, between, NoneBelow, NoneAbove, SomeAbove, IsCrossingAt, tip, ObeysLaws}
-use Rattle.plane_clip.proofs.ShareSplits.{share_first, share_middle, share_last, share-swapped, share-turned}
-use Rattle.plane_clip.proofs.WetSum.{IsLinearOn, N12, valued, form_at, twelve_at, form_first, form_middle, form_last, wet_part-form, wet_mean-part, wet_mean-form}
+use Rattle.hull_model.specs.TriangleLaws.{wet_part, between, NoneBelow, NoneAbove, SomeAbove, IsCrossingAt, tip, ObeysLaws}
+use Rattle.hull_model.proofs.ShareSplits.{share_first, share_middle, share_last, share-swapped, share-turned}
+use Rattle.hull_model.proofs.WetSum.{IsLinearOn, N12, valued, form_at, twelve_at, form_first, form_middle, form_last, wet_part-form, wet_mean-part, wet_mean-form}
 
 pub twelve-twelfth : N12 ⊗ inverse N12 ≡ one
 twelve-twelfth = Bounds.mul-inverse_positive fractions (positive-whole 12 (omega arith))

@@ -1,5 +1,5 @@
-use Rattle.plane_clip.proofs.MeanKinds.{share_kind, corner_kind, pair_kind, depth_kind, weighted_kind, kind_rises}
-use Rattle.plane_clip.proofs.laws.wet_means_rise.Goals as goal
+use Rattle.hull_model.proofs.MeanKinds.{share_kind, corner_kind, pair_kind, depth_kind, weighted_kind, kind_rises}
+use Rattle.hull_model.proofs.laws.wet_means_rise.Goals as goal
 
 pub returns-clause-share : goal.returns-clause-share
 returns-clause-share c = kind_rises share_kind

@@ -14,11 +14,11 @@ use Rattle.exact_algebra.proofs.Order as Order
 use Rattle.exact_algebra.proofs.Order.{order_from, no_more, at_most, scaled, equal}
 use Rattle.hull_model.specs.TriangleCut.{Triangle, triangle, is_kept_by, are_opposite, side, crossing}
 use Rattle.hull_model.specs.WetMean.{Place, places, with_depths, linear_mean, wet_depth}
-use Rattle.plane_clip.specs.TriangleLaws.{between, RisesByAtMost}
-use Rattle.plane_clip.proofs.CutInduction.{IsInside, one_side, inside, crossing_parameter, cut_induction}
-use Rattle.plane_clip.proofs.WetSum.{N12, form_at, twelve_at, form_first, form_middle, form_last, wet_mean-form, not_kept_either, linear, form_kept, form_not_above}
-use Rattle.plane_clip.proofs.TriangleLaws.{constant, constant_linear, depth_at, depth_linear, linear-twelfth, N-twelve}
-use Rattle.plane_clip.proofs.Rising.{Raised, Rises, rises-between, high_corners, high_linear, constant_weight, depth_rising, mean_rises, form_nonnegative, between_both}
+use Rattle.hull_model.specs.TriangleLaws.{between, RisesByAtMost}
+use Rattle.hull_model.proofs.CutInduction.{IsInside, one_side, inside, crossing_parameter, cut_induction}
+use Rattle.hull_model.proofs.WetSum.{N12, form_at, twelve_at, form_first, form_middle, form_last, wet_mean-form, not_kept_either, linear, form_kept, form_not_above}
+use Rattle.hull_model.proofs.TriangleLaws.{constant, constant_linear, depth_at, depth_linear, linear-twelfth, N-twelve}
+use Rattle.hull_model.proofs.Rising.{Raised, Rises, rises-between, high_corners, high_linear, constant_weight, depth_rising, mean_rises, form_nonnegative, between_both}
 
 abbrev form : Place → Place → Place → Fraction
 form a b c = form_at constant depth_at (triangle a b c)
