@@ -11,3 +11,4 @@ pub mod Lengths
 pub mod SixVolume
 pub mod Outward
 pub mod OutwardListed
+pub mod Uncut

@@ -1,13 +1,18 @@
 // The calls that make a boundary and measure it.
 ghost use Rattle.std.specs.Prelude.{◌≡◌, ◌<◌, ◌^◌, ◌+◌, ◌≤◌, ◌+ℤ◌, unsigned_abs, length, map, pos, List, IfOk};
 ghost use Rattle.std.specs.List.{AllByRecursion};
+ghost use Rattle.exact_algebra.proofs.Fraction.{◌⊗◌};
+ghost use Rattle.exact_algebra.proofs.Whole.{whole};
 ghost use Rattle.exact_fraction.specs.Bounds.{MagnitudeBelow};
 ghost use Rattle.hull_model.specs.declared.station.Station.{Station};
 ghost use Rattle.hull_model.specs.Body.{IsHull};
 ghost use Rattle.hull_model.specs.Boundary.{sum_of};
 ghost use Rattle.hull_model.specs.Faces.{determinant, triangle_of, IsFace};
 ghost use Rattle.hull_model.specs.Tetrahedra.{hull_tetrahedra, six_times};
-ghost use Rattle.hull_model.specs.Submerged.{first_x, last_x};
+ghost use Rattle.hull_model.specs.Fractions.{sum_over};
+ghost use Rattle.hull_model.specs.TetrahedronCut.{with_corners};
+ghost use Rattle.hull_model.specs.Waterplane.{position_of};
+ghost use Rattle.hull_model.specs.Submerged.{first_x, last_x, volume_of};
 ghost use Rattle.hull_polyhedron.specs.Extent.{IsLeast, IsGreatest};
 ghost use Rattle.hull_polyhedron.specs.FacesOf.{AreFacesOf};
 
@@ -81,7 +86,8 @@ fn extent_of(stations: &[Station]) -> Extent
 
 /// Six times the volume of the hull in mm³.
 pub fn six_volume(faces: &Faces) -> i128
-    ensures { (stations : List Station) → IsHull stations → AreFacesOf stations faces.now → result ≡ sum_of (λ t. pos (six_times t)) (hull_tetrahedra stations) }
+    ensures tetrahedra { (stations : List Station) → IsHull stations → AreFacesOf stations faces.now → result ≡ sum_of (λ t. pos (six_times t)) (hull_tetrahedra stations) }
+    ensures uncut { (stations : List Station) → IsHull stations → AreFacesOf stations faces.now → whole result ≡ whole (pos 6) ⊗ sum_over volume_of (map (with_corners position_of) (hull_tetrahedra stations)) }
 {
     sum_of_determinants(faces.list())
 }
