@@ -12,3 +12,4 @@ pub mod SixVolume
 pub mod Outward
 pub mod OutwardListed
 pub mod Uncut
+pub mod Between

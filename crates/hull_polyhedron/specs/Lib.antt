@@ -2,3 +2,4 @@ pub mod Listed
 pub mod Widening
 pub mod Extent
 pub mod FacesOf
+pub mod Between

@@ -13,6 +13,7 @@ ghost use Rattle.hull_model.specs.Fractions.{sum_over};
 ghost use Rattle.hull_model.specs.TetrahedronCut.{with_corners};
 ghost use Rattle.hull_model.specs.Waterplane.{position_of};
 ghost use Rattle.hull_model.specs.Submerged.{first_x, last_x, volume_of};
+ghost use Rattle.hull_polyhedron.specs.Between.{AreEnds, LieBetween};
 ghost use Rattle.hull_polyhedron.specs.Extent.{IsLeast, IsGreatest};
 ghost use Rattle.hull_polyhedron.specs.FacesOf.{AreFacesOf};
 
@@ -38,7 +39,9 @@ pub fn faces_of(alloc: Global, hull: &Hull) -> Result<Faces, Memory>
 }
 
 fn assembled(list: FaceList, first_x: i64, last_x: i64, extent: Extent) -> Faces
-    requires { length list < 2 ^ 14 }
+    requires few { length list < 2 ^ 14 }
+    requires ends { AreEnds first_x last_x }
+    requires between { LieBetween first_x last_x list }
     ensures list { result.list ≡ list }
     ensures first_x { result.first_x ≡ first_x }
     ensures last_x { result.last_x ≡ last_x }

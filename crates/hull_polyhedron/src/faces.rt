@@ -1,7 +1,9 @@
 // The boundary of a hull.
 ghost use Rattle.std.specs.Prelude.{◌≡◌, ◌<◌, ◌^◌, length};
 ghost use Rattle.std.specs.List.{AllByRecursion};
+ghost use Rattle.std.proofs.Props.{props};
 ghost use Rattle.hull_model.specs.Faces.{IsFace};
+ghost use Rattle.hull_polyhedron.specs.Between.{AreEnds, LieBetween};
 
 use crate::FaceList;
 use hull_model::Face;
@@ -9,7 +11,8 @@ use hull_model::Face;
 /// The boundary of a hull: the faces of its tetrahedra that are left after opposite ones cancel, and
 /// between what the hull lies.
 ///
-/// Faces of no area are left out. There are fewer than 16384.
+/// Faces of no area are left out. There are fewer than 16384. Every corner lies from the first station to
+/// the last, both ends included.
 #[derive(Debug, Drop)]
 pub struct Faces {
     pub(crate) list: FaceList,
@@ -19,6 +22,8 @@ pub struct Faces {
     pub(crate) high_z: i64,
     pub(crate) half_breadth: i64,
     ghost few: { length list < 2 ^ 14 },
+    ghost ends: { AreEnds first_x last_x },
+    ghost between: { LieBetween first_x last_x list } by { Prim.hlevel props },
 }
 
 impl Faces {
@@ -27,20 +32,23 @@ impl Faces {
         ensures same { result.now ≡ self.now.list }
         ensures limits { AllByRecursion IsFace self.now.list }
         ensures few { length self.now.list < 2 ^ 14 }
+        ensures between { LieBetween self.now.first_x self.now.last_x self.now.list }
     {
         self.list.as_slice()
     }
 
-    /// x of the first station, in mm.
+    /// x of the first station, in mm, from 0 to 524287 and below that of the last.
     pub fn first_x(&self) -> i64
-        ensures { result ≡ self.now.first_x }
+        ensures same { result ≡ self.now.first_x }
+        ensures ends { AreEnds self.now.first_x self.now.last_x }
     {
         self.first_x
     }
 
-    /// x of the last station, in mm.
+    /// x of the last station, in mm, from 0 to 524287.
     pub fn last_x(&self) -> i64
-        ensures { result ≡ self.now.last_x }
+        ensures same { result ≡ self.now.last_x }
+        ensures ends { AreEnds self.now.first_x self.now.last_x }
     {
         self.last_x
     }

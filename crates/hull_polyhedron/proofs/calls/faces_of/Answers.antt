@@ -13,12 +13,25 @@ use Rattle.hull_polyhedron.specs.Extent.{IsLeast, IsGreatest}
 use Rattle.hull_polyhedron.specs.FacesOf.{AreFacesOf}
 use Rattle.hull_polyhedron.proofs.Lengths.{few_faces}
 use Rattle.hull_polyhedron.proofs.Listing.{kept_boundary}
+use Rattle.hull_polyhedron.proofs.Between.{ends_at, between_at}
 use Rattle.hull_polyhedron.proofs.calls.faces_of.Goals as goal
 
-pub assembled-requires : goal.assembled-requires
-assembled-requires c =
+pub assembled-requires-clause-few : goal.assembled-requires-clause-few
+assembled-requires-clause-few c =
     subst (λ (fs : List Face). length fs < 2 ^ 14) (sym c.in_ok-list.ensures)
     (few_faces c.stations-stations.result.now (subst IsHull (sym c.stations-stations.ensures.same) c.stations-stations.ensures.kept))
+
+pub assembled-requires-clause-ends : goal.assembled-requires-clause-ends
+assembled-requires-clause-ends c =
+    let first-fits : SFits w64 c.first_x_of.result = record { sfits = c.first_x_of.type_inv } in
+    let last-fits : SFits w64 c.last_x_of.result = record { sfits = c.last_x_of.type_inv } in
+    simp to_z-of_z (ends_at c.stations-stations.result.now (subst IsHull (sym c.stations-stations.ensures.same) c.stations-stations.ensures.kept) c.first_x_of.ensures c.last_x_of.ensures)
+
+pub assembled-requires-clause-between : goal.assembled-requires-clause-between
+assembled-requires-clause-between c =
+    let first-fits : SFits w64 c.first_x_of.result = record { sfits = c.first_x_of.type_inv } in
+    let last-fits : SFits w64 c.last_x_of.result = record { sfits = c.last_x_of.type_inv } in
+    simp to_z-of_z (between_at c.stations-stations.result.now (subst IsHull (sym c.stations-stations.ensures.same) c.stations-stations.ensures.kept) c.first_x_of.ensures c.last_x_of.ensures c.in_ok-list.ensures)
 
 pub returns : goal.returns
 returns c =
