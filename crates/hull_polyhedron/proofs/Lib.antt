@@ -13,3 +13,12 @@ pub mod Outward
 pub mod OutwardListed
 pub mod Uncut
 pub mod Between
+pub mod Flux
+pub mod Pieces
+pub mod Placed
+pub mod Determinants
+pub mod ColumnForm
+pub mod OneTetrahedron
+pub mod OutwardSolids
+pub mod WholeHull
+pub mod ColumnMeans

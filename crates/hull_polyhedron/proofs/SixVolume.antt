@@ -25,7 +25,7 @@ use Rattle.hull_model.proofs.Balance.{balanced_sums, sum_whole}
 use Rattle.hull_polyhedron.proofs.Sums.{sum-flat_map, sum-map}
 use Rattle.hull_polyhedron.proofs.Solids as Solids
 use Rattle.hull_polyhedron.proofs.Solids.{with_sign}
-use Rattle.hull_polyhedron.proofs.Proper.{IsProper, all_proper}
+use Rattle.hull_polyhedron.proofs.Proper.{IsProper, all_proper, all-append}
 
 -- ---- the determinant is alternating
 abbrev nine : Triangle Node → List ℤ
@@ -72,7 +72,7 @@ magnitude_by false (pos (suc n)) h = absurd (omega (arith, ints))
 magnitude_by false (negsuc n) h = refl
 
 -- a solid whose sign is that of its determinant
-abbrev IsRight : Signed → Type 0
+abbrev pub IsRight : Signed → Type 0
 IsRight s = pos 0 ≤ℤ with_sign s.outwards (turned_six s.solid)
 
 solid_six : (s : Signed) → IsRight s → sum_of determinant (outward_faces s) ≡ pos (six_times s.solid)
@@ -161,10 +161,6 @@ mirror_right : (s : Signed) → IsRight s → IsRight (mirror_image s)
 mirror_right s right = at_least_same (ap (with_sign (not s.outwards)) (mirrored_six s.solid) ∙ other_sign s.outwards (neg_ℤ (turned_six s.solid))
     ∙ ap (with_sign s.outwards) (ring integers (turned_six s.solid ∷ []) (opposite (opposite (var 0))) (var 0) refl)) right
 
-all-append : {A : Type 0} (P : A → Type 0) (xs ys : List A) → AllByRecursion P xs → AllByRecursion P ys → AllByRecursion P (xs ++ ys)
-all-append P [] ys h k = k
-all-append P (x ∷ xs) ys h k = (h.0, all-append P xs ys h.1 k)
-
 half_right : (ts : List (Triangle Node)) → AllByRecursion IsProper ts → AllByRecursion IsRight (flat_map signed_solids ts)
 half_right [] proper = tt
 half_right (t ∷ ts) proper = all-append IsRight (signed_solids t) (flat_map signed_solids ts) (three_right t proper.0) (half_right ts proper.1)
@@ -172,6 +168,11 @@ half_right (t ∷ ts) proper = all-append IsRight (signed_solids t) (flat_map si
 images_right : (ss : List Signed) → AllByRecursion IsRight ss → AllByRecursion IsRight (map mirror_image ss)
 images_right [] right = tt
 images_right (s ∷ ss) right = (mirror_right s right.0, images_right ss right.1)
+
+pub all_right : (stations : List Station) → AllByRecursion IsStation stations → Rises (λ s. s.x) stations → AllByRecursion IsRight (signed_tetrahedra stations)
+all_right stations each rises =
+    let right = half_right (strip_triangles stations) (all_proper stations each rises) in
+    all-append IsRight (signed_half stations) (map mirror_image (signed_half stations)) right (images_right (signed_half stations) right)
 
 -- ---- all tetrahedra
 solids_six : (ss : List Signed) → AllByRecursion IsRight ss → sum_of (λ s. sum_of determinant (outward_faces s)) ss ≡ sum_of (λ s. pos (six_times s.solid)) ss
@@ -192,10 +193,8 @@ solids_of_hull stations = map-append (λ (s : Signed). s.solid) (signed_half sta
     ∙ ap₂ ◌++◌ (half_solids (strip_triangles stations)) (image_solids (signed_half stations) ∙ ap (map (with_corners mirrored)) (half_solids (strip_triangles stations)))
 
 pub signed_six : (stations : List Station) → AllByRecursion IsStation stations → Rises (λ s. s.x) stations → sum_of determinant (signed_faces stations) ≡ sum_of (λ t. pos (six_times t)) (hull_tetrahedra stations)
-signed_six stations each rises =
-    let right = half_right (strip_triangles stations) (all_proper stations each rises) in
-    sum-flat_map determinant outward_faces (signed_tetrahedra stations)
-    ∙ solids_six (signed_tetrahedra stations) (all-append IsRight (signed_half stations) (map mirror_image (signed_half stations)) right (images_right (signed_half stations) right))
+signed_six stations each rises = sum-flat_map determinant outward_faces (signed_tetrahedra stations)
+    ∙ solids_six (signed_tetrahedra stations) (all_right stations each rises)
     ∙ sym (sum-map (λ t. pos (six_times t)) (λ (s : Signed). s.solid) (signed_tetrahedra stations)) ∙ ap (sum_of (λ t. pos (six_times t))) (solids_of_hull stations)
 
 -- the faces of a list that is balanced against the signed faces

@@ -16,7 +16,7 @@ use Rattle.hull_model.specs.Waterplane.{position_of}
 use Rattle.hull_model.specs.Submerged.{determinant, volume_of}
 use Rattle.hull_model.specs.Boundary.{sum_of}
 
-whole_minor : (a b c d : ℤ) → whole ((a *ℤ b) -ℤ (c *ℤ d)) ≡ whole a ⊗ whole b ⊖ whole c ⊗ whole d
+pub whole_minor : (a b c d : ℤ) → whole ((a *ℤ b) -ℤ (c *ℤ d)) ≡ whole a ⊗ whole b ⊖ whole c ⊗ whole d
 whole_minor a b c d = whole-sub (a *ℤ b) (c *ℤ d) ∙ ap₂ (λ x y. x ⊖ y) (whole-mul a b) (whole-mul c d)
 
 whole_dot : (u v : Vector) → whole (dot u v) ≡ (whole u.x ⊗ whole v.x ⊕ whole u.y ⊗ whole v.y) ⊕ whole u.z ⊗ whole v.z
@@ -38,7 +38,7 @@ whole_det u v w = ring_from fraction_ring
     (var 12) refl
 
 -- the determinant of whole corners
-whole_determinant : (t : Tetrahedron Node) → determinant (with_corners position_of t) ≡ whole (turned_six t)
+pub whole_determinant : (t : Tetrahedron Node) → determinant (with_corners position_of t) ≡ whole (turned_six t)
 unfolding determinant det
 whole_determinant t = (λ i. det
     (sym (whole-sub t.b.x t.a.x) i) (sym (whole-sub t.b.y t.a.y) i) (sym (whole-sub t.b.z t.a.z) i)

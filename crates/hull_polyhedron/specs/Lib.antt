@@ -3,3 +3,6 @@ pub mod Widening
 pub mod Extent
 pub mod FacesOf
 pub mod Between
+pub mod Columns
+pub mod ColumnMeans
+pub mod CentralLaw

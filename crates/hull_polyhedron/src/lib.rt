@@ -1,4 +1,4 @@
-//! The boundary of the body: the faces of its tetrahedra that don't cancel.
+//! The boundary of the body: the faces of its tetrahedra that don't cancel, and the central law over them.
 #![tactic(auto)]
 
 mod boundary;
@@ -6,9 +6,13 @@ mod calls;
 mod extent;
 mod face_list;
 mod faces;
+mod laws;
 #[cfg(test)]
 mod tests;
 
 pub use calls::{faces_of, six_volume};
 pub use face_list::FaceList;
 pub use faces::Faces;
+pub use laws::{
+    columns_are_known_by_means, hulls_are_summed_by_columns, tetrahedra_are_summed_by_columns,
+};
