@@ -1,0 +1,27 @@
+use Rattle.std.proofs.Common.{w64}
+use Rattle.std.proofs.lemmas.Int.{to_z-of_z}
+use mir.Val.{SFits}
+use Rattle.exact_algebra.proofs.Whole.{whole}
+use Rattle.outward_interval.specs.Laws.{sum_contains, difference_contains}
+use Rattle.hull_model.specs.Waterplane.{position_of, height, level_at}
+use Rattle.flux_moments.proofs.Heights.{place_fits}
+use Rattle.flux_moments.proofs.corner.Corner.of.Goals as goal
+
+pub returns-clause-depth : goal.returns-clause-depth
+returns-clause-depth c plane h =
+    let level = c.levels_at-level in
+    let high = c.height_of-height in
+    let x : SFits w64 c.args.node.x = place_fits c.args.node c.requires.node in
+    difference_contains 20 level.result.lo level.result.hi high.result.lo high.result.hi c.sub.result.lo c.sub.result.hi
+    (level_at plane c.args.way.first c.args.way.last (whole c.args.node.x)) (height plane (position_of c.args.node)) c.sub.ensures (simp to_z-of_z at (level.ensures.contains plane h)) (high.ensures.contains plane h.direction)
+
+pub returns-clause-side : goal.returns-clause-side
+returns-clause-side c plane h = c.side_of.ensures.contains plane h.direction
+
+pub returns-clause-middle : goal.returns-clause-middle
+returns-clause-middle c plane h =
+    let level = c.levels_at-level in
+    let high = c.height_of-height in
+    let x : SFits w64 c.args.node.x = place_fits c.args.node c.requires.node in
+    sum_contains 20 level.result.lo level.result.hi high.result.lo high.result.hi c.add.result.lo c.add.result.hi
+    (level_at plane c.args.way.first c.args.way.last (whole c.args.node.x)) (height plane (position_of c.args.node)) c.add.ensures (simp to_z-of_z at (level.ensures.contains plane h)) (high.ensures.contains plane h.direction)

@@ -1,0 +1,46 @@
+use Rattle.std.proofs.Common.{◌∙◌, subst}
+use Rattle.exact_algebra.proofs.Fraction.{Fraction}
+use Rattle.exact_algebra.proofs.Span.{ContainsFraction}
+use Rattle.hull_model.specs.Waterplane.{side_distance}
+use Rattle.flux_moments.proofs.FaceColumns.{depths, doubled_seen, volume_doubled, moment_doubled, height_moment, renamed_places}
+use Rattle.flux_moments.proofs.face_columns.columns.Goals as goal
+
+pub returns-clause-volume : goal.returns-clause-volume
+returns-clause-volume c plane is =
+    let first = c.args.way.first in
+    let last = c.args.way.last in
+    let face = c.args.face.now in
+    subst (λ (x : Fraction). ContainsFraction 20 c.columns_at.result.volume.lo c.columns_at.result.volume.hi x) (volume_doubled plane first last face c.requires.face)
+    (c.columns_at.ensures.volume (depths plane first last face c.requires.face) (doubled_seen plane first last face c.requires.face)
+    (c.of-first.ensures.depth plane is, c.of-second.ensures.depth plane is, c.of-third.ensures.depth plane is) (c.factor_of.ensures.contains plane is))
+
+pub returns-clause-mv : goal.returns-clause-mv
+returns-clause-mv c plane is =
+    let first = c.args.way.first in
+    let last = c.args.way.last in
+    let face = c.args.face.now in
+    subst (λ (x : Fraction). ContainsFraction 20 c.columns_at.result.mv.lo c.columns_at.result.mv.hi x) (moment_doubled plane first last face c.requires.face (side_distance plane))
+    (c.columns_at.ensures.mv (depths plane first last face c.requires.face) (doubled_seen plane first last face c.requires.face) _ _ _
+    (c.of-first.ensures.depth plane is, c.of-second.ensures.depth plane is, c.of-third.ensures.depth plane is) (c.factor_of.ensures.contains plane is)
+    (c.of-first.ensures.side plane is) (c.of-second.ensures.side plane is) (c.of-third.ensures.side plane is))
+
+pub returns-clause-mu : goal.returns-clause-mu
+returns-clause-mu c plane is =
+    let first = c.args.way.first in
+    let last = c.args.way.last in
+    let face = c.args.face.now in
+    subst (λ (x : Fraction). ContainsFraction 20 c.columns_at.result.mu.lo c.columns_at.result.mu.hi x) (height_moment plane first last face c.requires.face)
+    (c.columns_at.ensures.mu (depths plane first last face c.requires.face) (doubled_seen plane first last face c.requires.face) _ _ _
+    (c.of-first.ensures.depth plane is, c.of-second.ensures.depth plane is, c.of-third.ensures.depth plane is) (c.factor_of.ensures.contains plane is)
+    (c.of-first.ensures.middle plane is) (c.of-second.ensures.middle plane is) (c.of-third.ensures.middle plane is))
+
+pub returns-clause-mx : goal.returns-clause-mx
+returns-clause-mx c plane is =
+    let first = c.args.way.first in
+    let last = c.args.way.last in
+    let face = c.args.face.now in
+    subst (λ (x : Fraction). ContainsFraction 20 c.columns_at.result.mx.lo c.columns_at.result.mx.hi x)
+    (renamed_places (depths plane first last face c.requires.face) (doubled_seen plane first last face c.requires.face) c.of-first.ensures.x c.of-second.ensures.x c.of-third.ensures.x
+    ∙ moment_doubled plane first last face c.requires.face (λ p. p.x))
+    (c.columns_at.ensures.mx (depths plane first last face c.requires.face) (doubled_seen plane first last face c.requires.face)
+    (c.of-first.ensures.depth plane is, c.of-second.ensures.depth plane is, c.of-third.ensures.depth plane is) (c.factor_of.ensures.contains plane is))

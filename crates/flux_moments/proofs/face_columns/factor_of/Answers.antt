@@ -1,0 +1,55 @@
+use Rattle.std.proofs.Common.{arith}
+use Rattle.std.proofs.lemmas.Int.{to_z-of_z}
+use Rattle.std.specs.Int.{w64}
+use mir.Val.{SFits}
+use Rattle.hull_model.proofs.Magnitudes.{fits_64}
+use Rattle.outward_interval.specs.Laws.{sum_contains, negative_contains}
+use Rattle.flux_moments.proofs.FaceAreas.{areas_below, sum_within, opposite_below}
+use Rattle.flux_moments.proofs.face_columns.factor_of.Goals as goal
+
+pub times_sine-across-requires : goal.times_sine-across-requires
+times_sine-across-requires c =
+    let small = areas_below c.args.face.now c.requires in
+    let fits : SFits w64 c.args.face.now.ay = fits_64 _ (omega (arith, small.0)) in
+    simp to_z-of_z (omega (arith, small.0))
+
+pub times_cosine-along-requires : goal.times_cosine-along-requires
+times_cosine-along-requires c =
+    let small = areas_below c.args.face.now c.requires in
+    let fits : SFits w64 c.args.face.now.az = fits_64 _ (omega (arith, small.1)) in
+    simp to_z-of_z (omega (arith, small.1))
+
+pub add-requires : goal.add-requires
+add-requires c =
+    let small = areas_below c.args.face.now c.requires in
+    let fits_y : SFits w64 c.args.face.now.ay = fits_64 _ (omega (arith, small.0)) in
+    let fits_z : SFits w64 c.args.face.now.az = fits_64 _ (omega (arith, small.1)) in
+    let across = simp to_z-of_z at c.times_sine-across.ensures.ends in
+    let along = simp to_z-of_z at c.times_cosine-along.ensures.ends in (
+      omega arith,
+      record {
+        low = omega (arith, sum_within c.times_sine-across.result.lo c.times_cosine-along.result.lo c.args.face.now.ay c.args.face.now.az small.0 small.1 across.low along.low);
+        high = omega (arith, sum_within c.times_sine-across.result.hi c.times_cosine-along.result.hi c.args.face.now.ay c.args.face.now.az small.0 small.1 across.high along.high);
+      },
+    )
+
+pub returns-clause-ends : goal.returns-clause-ends
+returns-clause-ends c =
+    let small = areas_below c.args.face.now c.requires in
+    let fits_y : SFits w64 c.args.face.now.ay = fits_64 _ (omega (arith, small.0)) in
+    let fits_z : SFits w64 c.args.face.now.az = fits_64 _ (omega (arith, small.1)) in
+    let across = simp to_z-of_z at c.times_sine-across.ensures.ends in
+    let along = simp to_z-of_z at c.times_cosine-along.ensures.ends in
+    record {
+      low = opposite_below c.neg.ensures.low c.add.ensures.high (sum_within c.times_sine-across.result.hi c.times_cosine-along.result.hi c.args.face.now.ay c.args.face.now.az small.0 small.1 across.high along.high);
+      high = opposite_below c.neg.ensures.high c.add.ensures.low (sum_within c.times_sine-across.result.lo c.times_cosine-along.result.lo c.args.face.now.ay c.args.face.now.az small.0 small.1 across.low along.low);
+    }
+
+pub returns-clause-contains : goal.returns-clause-contains
+returns-clause-contains c plane is =
+    let small = areas_below c.args.face.now c.requires in
+    let fits_y : SFits w64 c.args.face.now.ay = fits_64 _ (omega (arith, small.0)) in
+    let fits_z : SFits w64 c.args.face.now.az = fits_64 _ (omega (arith, small.1)) in
+    let across = simp to_z-of_z at c.times_sine-across.ensures.contains plane is.direction in
+    let along = simp to_z-of_z at c.times_cosine-along.ensures.contains plane is.direction in
+    negative_contains 40 _ _ _ _ _ c.neg.ensures (sum_contains 40 _ _ _ _ _ _ _ _ c.add.ensures across along)

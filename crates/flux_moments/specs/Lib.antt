@@ -1,0 +1,4 @@
+pub mod Limits
+pub mod Planes
+pub mod Columns
+pub mod Wets

@@ -1,0 +1,14 @@
+//! The hull below a waterplane: its volume and moments, enclosed for all planes of a box.
+#![tactic(auto)]
+
+mod corner;
+mod face_columns;
+mod plane_box;
+mod sums;
+#[cfg(test)]
+mod tests;
+mod wet;
+
+pub use plane_box::PlaneBox;
+pub use sums::{measure, volume_below};
+pub use wet::Wet;

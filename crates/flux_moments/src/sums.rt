@@ -1,0 +1,106 @@
+// The integrals below the planes of a box.
+ghost use Rattle.std.specs.Prelude.{◌≡◌, ◌<◌, ◌^◌, List, length, pos};
+ghost use Rattle.std.specs.List.{AllByRecursion};
+ghost use Rattle.exact_algebra.proofs.Fraction.{◌⊗◌};
+ghost use Rattle.exact_algebra.proofs.Span.{ContainsFraction};
+ghost use Rattle.exact_algebra.proofs.Whole.{whole};
+ghost use Rattle.hull_model.specs.declared.station.Station.{Station};
+ghost use Rattle.hull_model.specs.Body.{IsHull};
+ghost use Rattle.hull_model.specs.Faces.{IsFace};
+ghost use Rattle.hull_model.specs.Submerged as submerged;
+ghost use Rattle.hull_model.specs.Submerged.{submerged_volume};
+ghost use Rattle.hull_model.specs.Waterplane.{Waterplane};
+ghost use Rattle.hull_polyhedron.specs.Between.{LieBetween};
+ghost use Rattle.hull_polyhedron.specs.FacesOf.{AreFacesOf};
+ghost use Rattle.flux_moments.specs.Columns.{columns_volume, columns_mx, columns_mv, columns_mu};
+ghost use Rattle.flux_moments.specs.Planes.{IsIn};
+
+use crate::corner::Way;
+use crate::face_columns::{columns, volume_column};
+use crate::{PlaneBox, Wet};
+use hull_model::Face;
+use hull_polyhedron::Faces;
+use outward_interval::Span;
+
+/// Encloses the volume, and the integrals of x, of the distance towards the low side and of the height, of the part of a
+/// hull that lies below a plane, for each plane of the box. The faces are the hull's boundary.
+///
+/// One pass over the faces: each stands for the column between its wet part and the plane, and a face that points
+/// downwards adds what one that points upwards takes away.
+pub fn measure(faces: &Faces, planes: &PlaneBox) -> Wet
+    ensures volume { (stations : List Station) → IsHull stations → AreFacesOf stations faces.now → (plane : Waterplane) → IsIn planes.now plane → ContainsFraction 20 result.volume.lo result.volume.hi (submerged_volume plane stations) }
+    ensures mx { (stations : List Station) → IsHull stations → AreFacesOf stations faces.now → (plane : Waterplane) → IsIn planes.now plane → ContainsFraction 20 result.mx.lo result.mx.hi (submerged.mx plane stations) }
+    ensures mv { (stations : List Station) → IsHull stations → AreFacesOf stations faces.now → (plane : Waterplane) → IsIn planes.now plane → ContainsFraction 20 result.mv.lo result.mv.hi (submerged.mv plane stations) }
+    ensures mu { (stations : List Station) → IsHull stations → AreFacesOf stations faces.now → (plane : Waterplane) → IsIn planes.now plane → ContainsFraction 20 result.mu.lo result.mu.hi (submerged.mu plane stations) }
+{
+    let way = Way {
+        first: faces.first_x(),
+        last: faces.last_x(),
+    };
+    let sums = column_sums(faces.list(), planes, way);
+    Wet {
+        volume: sums.volume.over_whole(2),
+        mx: sums.mx.over_whole(2),
+        mv: sums.mv.over_whole(2),
+        mu: sums.mu.over_whole(4),
+    }
+}
+
+/// Encloses the volume alone, as [`measure`] does, at less cost.
+pub fn volume_below(faces: &Faces, planes: &PlaneBox) -> Span<20>
+    ensures { (stations : List Station) → IsHull stations → AreFacesOf stations faces.now → (plane : Waterplane) → IsIn planes.now plane → ContainsFraction 20 result.lo result.hi (submerged_volume plane stations) }
+{
+    let way = Way {
+        first: faces.first_x(),
+        last: faces.last_x(),
+    };
+    let sum = volume_sum(faces.list(), planes, way);
+    sum.over_whole(2)
+}
+
+/// Twice the volume of the columns of faces.
+fn volume_sum(faces: &[Face], planes: &PlaneBox, way: Way) -> Span<20>
+    requires limits { AllByRecursion IsFace faces.now }
+    requires between { LieBetween way.first way.last faces.now }
+    requires few { length faces.now < 2 ^ 14 }
+    ensures { (plane : Waterplane) → IsIn planes.now plane → ContainsFraction 20 result.lo result.hi (columns_volume plane way.first way.last faces.now ⊗ whole (pos 2)) }
+{
+    let mut sum = nothing();
+    for face in faces {
+        sum = sum + volume_column(face, planes, way);
+    }
+    sum
+}
+
+/// The sums over the columns of faces: twice the volume and the integrals of x and of the side, four times that of the
+/// height.
+fn column_sums(faces: &[Face], planes: &PlaneBox, way: Way) -> Wet
+    requires limits { AllByRecursion IsFace faces.now }
+    requires between { LieBetween way.first way.last faces.now }
+    requires few { length faces.now < 2 ^ 14 }
+    ensures volume { (plane : Waterplane) → IsIn planes.now plane → ContainsFraction 20 result.volume.lo result.volume.hi (columns_volume plane way.first way.last faces.now ⊗ whole (pos 2)) }
+    ensures mx { (plane : Waterplane) → IsIn planes.now plane → ContainsFraction 20 result.mx.lo result.mx.hi (columns_mx plane way.first way.last faces.now ⊗ whole (pos 2)) }
+    ensures mv { (plane : Waterplane) → IsIn planes.now plane → ContainsFraction 20 result.mv.lo result.mv.hi (columns_mv plane way.first way.last faces.now ⊗ whole (pos 2)) }
+    ensures mu { (plane : Waterplane) → IsIn planes.now plane → ContainsFraction 20 result.mu.lo result.mu.hi (columns_mu plane way.first way.last faces.now ⊗ whole (pos 4)) }
+{
+    let none = nothing();
+    let mut sums = Wet {
+        volume: none,
+        mx: none,
+        mv: none,
+        mu: none,
+    };
+    for face in faces {
+        sums = sums + columns(face, planes, way);
+    }
+    sums
+}
+
+fn nothing() -> Span<20>
+    ensures { (result.lo ≡ pos 0) × (result.hi ≡ pos 0) }
+{
+    match Span::new(0, 0) {
+        Some(span) => span,
+        None => unreachable!(),
+    }
+}
