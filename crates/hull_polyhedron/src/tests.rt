@@ -1,5 +1,5 @@
 use crate::{Faces, faces_of, six_volume};
-use hull_model::{Hull, Point, Points, Station, tets_of};
+use hull_model::{Hull, Point, Points, Station, six_of, tets_of};
 use std::alloc::Global;
 use std::test::Fail;
 
@@ -54,12 +54,18 @@ fn hull_of(alloc: Global, text: &str) -> Result<Option<Hull>, Fail> {
     Ok(Hull::of(stations))
 }
 
-// The number of tetrahedra, and the boundary.
-fn counted(alloc: Global, text: &str) -> Result<Option<(usize, Faces)>, Fail> {
+// The numbers of tetrahedra, and of those among them without volume; and the boundary.
+fn counted(alloc: Global, text: &str) -> Result<Option<(usize, usize, Faces)>, Fail> {
     match hull_of(alloc, text)? {
         Some(hull) => {
-            let count = tets_of(alloc, &hull)?.len();
-            Ok(Some((count, faces_of(alloc, &hull)?)))
+            let tets = tets_of(alloc, &hull)?;
+            let mut flat: usize = 0;
+            for tet in tets.as_slice() {
+                if six_of(tet) == 0 {
+                    flat = flat.saturating_add(1);
+                }
+            }
+            Ok(Some((tets.len(), flat, faces_of(alloc, &hull)?)))
         }
         None => Ok(None),
     }
@@ -67,8 +73,8 @@ fn counted(alloc: Global, text: &str) -> Result<Option<(usize, Faces)>, Fail> {
 
 #[test]
 fn the_barge_has_32_faces(rt: HostRuntime) -> Result<(), Fail> {
-    let (count, faces) = counted(rt.alloc(), BARGE)?.expect(&rt, "a hull");
-    assert_eq!(rt; count, 24);
+    let (count, flat, faces) = counted(rt.alloc(), BARGE)?.expect(&rt, "a hull");
+    assert_eq!(rt; (count, flat), (24, 0));
     assert_eq!(rt; faces.list().len(), 32);
     assert_eq!(rt; six_volume(&faces), 120000000000000);
     assert_eq!(rt; (faces.first_x(), faces.last_x()), (0, 100000));
@@ -79,8 +85,8 @@ fn the_barge_has_32_faces(rt: HostRuntime) -> Result<(), Fail> {
 
 #[test]
 fn the_cargo_ship_has_548_faces(rt: HostRuntime) -> Result<(), Fail> {
-    let (count, faces) = counted(rt.alloc(), CARGO)?.expect(&rt, "a hull");
-    assert_eq!(rt; count, 1170);
+    let (count, flat, faces) = counted(rt.alloc(), CARGO)?.expect(&rt, "a hull");
+    assert_eq!(rt; (count, flat), (1170, 30));
     assert_eq!(rt; faces.list().len(), 548);
     assert_eq!(rt; six_volume(&faces), 101283500000000);
     assert_eq!(rt; (faces.first_x(), faces.last_x()), (0, 102000));
