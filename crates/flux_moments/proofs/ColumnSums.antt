@@ -10,7 +10,7 @@ use Rattle.exact_algebra.proofs.Whole.{whole, whole-nought}
 use Rattle.hull_model.specs.declared.face.Face.{Face}
 use Rattle.hull_model.specs.Fractions.{sum_over}
 use Rattle.hull_model.specs.Waterplane.{Waterplane, side_distance}
-use Rattle.outward_interval.specs.Ends.{EndsBelow, AreEnds}
+use Rattle.outward_interval.specs.Ends.{EndsBelow, AreEnds, AreLeastEnds}
 use Rattle.outward_interval.specs.Laws.{sum_contains}
 use Rattle.outward_interval.specs.declared.span.Span.{Span}
 use Rattle.hull_polyhedron.specs.Columns.{middle}
@@ -20,6 +20,7 @@ use Rattle.flux_moments.specs.Planes.{IsIn}
 use Rattle.flux_moments.specs.declared.plane_box.PlaneBox.{PlaneBox}
 use Rattle.flux_moments.specs.declared.wet.Wet.{Wet}
 use Rattle.flux_moments.specs.Wets.{AllFields, CanAdd, IsSum}
+use Rattle.flux_moments.proofs.ProductEnds.{floor_at_most, ceiling_at_most}
 
 sum-last : {A : Type 0} (f : A → Fraction) (xs : List A) (x : A) → sum_over f (xs ++ x ∷ []) ≡ sum_over f xs ⊕ f x
 unfolding sum_over
@@ -90,6 +91,7 @@ pub record AreSums (planes : PlaneBox) (first last : ℤ) (faces : List Face) (c
   pub mv : EnclosesSum planes (λ plane. column_integral plane first last (side_distance plane)) 2 faces count sums.mv
   pub mu : EnclosesSum planes (λ plane. column_integral plane first last (middle plane first last)) 4 faces count sums.mu
   pub ends : AllFields (SmallFor count) sums
+  pub seen : count ≤ length faces
 
 pub sums-start : (planes : PlaneBox) (first last : ℤ) (faces : List Face) (s : Span 20) → (s.lo ≡ pos 0) × (s.hi ≡ pos 0) → AreSums planes first last faces 0 (record { volume = s; mx = s; mv = s; mu = s })
 sums-start planes first last faces s e = record {
@@ -98,6 +100,7 @@ sums-start planes first last faces s e = record {
   mv = enclosed-start planes _ 2 faces s e.0 e.1;
   mu = enclosed-start planes _ 4 faces s e.0 e.1;
   ends = (small-start s e.0 e.1, small-start s e.0 e.1, small-start s e.0 e.1, small-start s e.0 e.1);
+  seen = omega arith;
 }
 
 pub sums-fit : (planes : PlaneBox) (first last : ℤ) (faces : List Face) (count : ℕ) (sums columns : Wet) → length faces < 2 ^ 14 → count < length faces → AreSums planes first last faces count sums
@@ -130,15 +133,17 @@ sums-more planes first last faces count other sums columns result h before ends 
     small-more count sums.mv columns.mv result.mv before.ends.2 ends.2 are.mv,
     small-more count sums.mu columns.mu result.mu before.ends.3 ends.3 are.mu,
   );
+  seen = omega (arith, h);
 }
 
 -- ---- one field alone
 pub record IsSumOf (planes : PlaneBox) (f : Waterplane → Face → Fraction) (times : ℕ) (faces : List Face) (count : ℕ) (sum : Span 20) : Type 0 where
   pub encloses : EnclosesSum planes f times faces count sum
   pub ends : SmallFor count sum
+  pub seen : count ≤ length faces
 
 pub sum-start : (planes : PlaneBox) (f : Waterplane → Face → Fraction) (times : ℕ) (faces : List Face) (s : Span 20) → (s.lo ≡ pos 0) × (s.hi ≡ pos 0) → IsSumOf planes f times faces 0 s
-sum-start planes f times faces s e = record { encloses = enclosed-start planes f times faces s e.0 e.1; ends = small-start s e.0 e.1 }
+sum-start planes f times faces s e = record { encloses = enclosed-start planes f times faces s e.0 e.1; ends = small-start s e.0 e.1; seen = omega arith }
 
 pub sum-step : (planes : PlaneBox) (f : Waterplane → Face → Fraction) (times : ℕ) (faces : List Face) (count : ℕ) (other : Face) (s t r : Span 20) → count < length faces
     → IsSumOf planes f times faces count s → EndsBelow 108 t.lo t.hi → ((plane : Waterplane) → IsIn planes plane → ContainsFraction 20 t.lo t.hi (f plane (get_or faces count other) ⊗ whole (pos times)))
@@ -146,8 +151,28 @@ pub sum-step : (planes : PlaneBox) (f : Waterplane → Face → Fraction) (times
 sum-step planes f times faces count other s t r h before ends one are = record {
   encloses = enclosed-more planes f times faces count other s t r h before.encloses one are;
   ends = small-more count s t r before.ends ends are;
+  seen = omega (arith, h);
 }
 
 pub sum-allowed : (planes : PlaneBox) (f : Waterplane → Face → Fraction) (times : ℕ) (faces : List Face) (count : ℕ) (s t : Span 20) → length faces < 2 ^ 14 → count < length faces
     → IsSumOf planes f times faces count s → EndsBelow 108 t.lo t.hi → EndsBelow 126 (s.lo +ℤ t.lo) (s.hi +ℤ t.hi)
 sum-allowed planes f times faces count s t few h before ends = sum-fits count s t (omega (arith, few, h)) before.ends ends
+
+-- ---- the ends at last
+pub all_at_most : (faces : List Face) (count : ℕ) (s : Span 20) → length faces < 2 ^ 14 → count ≤ length faces → SmallFor count s → EndsAtMost (2 ^ 122) s.lo s.hi
+all_at_most faces count s few seen h = record { low = under h.low; high = under h.high }
+  where
+    under : {n : ℕ} → n ≤ count * 2 ^ 108 → n ≤ 2 ^ 122
+    under k = omega (arith, few, seen, k)
+
+pub quotient_below : (n : ℕ) {low high lo hi : ℤ} → 2 ≤ n → EndsAtMost (2 ^ 122) low high → AreLeastEnds low high n lo hi → EndsBelow 123 lo hi
+quotient_below n {low} {high} {lo} {hi} h e are = record {
+  low = under (floor_at_most (2 ^ 122) n low lo (within e.low) are.low);
+  high = under (ceiling_at_most (2 ^ 122) n high hi (within e.high) are.high);
+}
+  where
+    within : {k : ℕ} → k ≤ 2 ^ 122 → k < 2 ^ 122 * n
+    within i = omega (arith, h, i)
+
+    under : {k : ℕ} → k ≤ 2 ^ 122 → k < 2 ^ 123
+    under i = omega (arith, i)

@@ -3,12 +3,15 @@ ghost use Rattle.std.specs.Prelude.{◌≡◌, IfSome};
 ghost use Rattle.flux_moments.specs.Wets.{AllFields};
 
 use crate::{PlaneBox, Wet, measure, volume_below};
+use angle_bounds::{Triple, exact};
 use hull_model::{Hull, Point, Points, Station};
 use hull_polyhedron::{Faces, faces_of};
 use outward_interval::Span;
 use std::alloc::Global;
 use std::process::Abort;
 use std::test::Fail;
+
+const UPRIGHT: Triple = Triple { c: 1, s: 0, r: 1 };
 
 const BARGE: &str = "\
 0 10000/0 10000/10000\n\
@@ -187,6 +190,10 @@ fn a_box_of_planes_holds_all_its_planes(rt: HostRuntime) -> Result<(), Fail> {
     let planes = PlaneBox::upright(5120000, 5121024, 5120000, 5121024).expect(&rt, "levels");
     let volume = measure(&faces, &planes).volume;
     assert!(rt; volume.lo() <= 10485760000000000000 && 10487857152000000000 <= volume.hi());
+    let twice = measure(&faces, &planes) + measure(&faces, &planes);
+    assert_eq!(rt; twice.volume.lo(), volume.lo().saturating_mul(2));
+    let level = PlaneBox::level(exact(UPRIGHT), 5120000, 5121024).expect(&rt, "levels");
+    assert_eq!(rt; measure(&faces, &level), measure(&faces, &planes));
     Ok(())
 }
 

@@ -1,7 +1,7 @@
 use Rattle.hull_model.specs.Waterplane.{side_distance}
 use Rattle.hull_polyhedron.specs.Columns.{middle}
 use Rattle.flux_moments.specs.Columns.{column_volume, column_integral}
-use Rattle.flux_moments.proofs.ColumnSums.{sums-start, sums-fit, sums-more, enclosed-end}
+use Rattle.flux_moments.proofs.ColumnSums.{sums-start, sums-fit, sums-more, enclosed-end, all_at_most}
 use Rattle.flux_moments.proofs.sums.column_sums.Goals as goal
 
 pub loop-face-init : goal.loop-face-init
@@ -25,3 +25,10 @@ returns-clause-mv c = enclosed-end c.args.planes.now (λ plane. column_integral 
 
 pub returns-clause-mu : goal.returns-clause-mu
 returns-clause-mu c = enclosed-end c.args.planes.now (λ plane. column_integral plane c.args.way.first c.args.way.last (middle plane c.args.way.first c.args.way.last)) 4 c.args.faces.now c.loop-face.face-index c.loop-face.sums.mu c.loop-face-test.false c.loop-face.invariant.mu
+
+pub returns-clause-ends : goal.returns-clause-ends
+returns-clause-ends c =
+    let at = all_at_most c.args.faces.now c.loop-face.face-index in
+    let ends = c.loop-face.invariant.ends in
+    let seen = c.loop-face.invariant.seen in
+    (at c.loop-face.sums.volume c.requires.few seen ends.0, at c.loop-face.sums.mx c.requires.few seen ends.1, at c.loop-face.sums.mv c.requires.few seen ends.2, at c.loop-face.sums.mu c.requires.few seen ends.3)

@@ -5,6 +5,7 @@ use mir.Val.{SFits}
 use Rattle.exact_algebra.proofs.Fraction.{Fraction}
 use Rattle.exact_algebra.proofs.Span.{ContainsFraction}
 use Rattle.flux_moments.specs.Columns.{columns_volume, columns_mx, columns_mv, columns_mu}
+use Rattle.flux_moments.proofs.ColumnSums.{quotient_below}
 use Rattle.flux_moments.proofs.Measured.{divided, renamed, volume_measured, mx_measured, mv_measured, mu_measured}
 use Rattle.flux_moments.proofs.sums.measure.Goals as goal
 
@@ -39,3 +40,11 @@ returns-clause-mu c stations hull are plane is =
     subst (λ (x : Fraction). ContainsFraction 20 c.over_whole-4.result.lo c.over_whole-4.result.hi x)
     (renamed (λ first last faces. columns_mu plane first last faces) (to_z-of_z w64 c.first_x.result first ∙ c.first_x.ensures.same) (to_z-of_z w64 c.last_x.result last ∙ c.last_x.ensures.same) c.list.ensures.same ∙ mu_measured plane stations hull c.args.faces.now are)
     (divided 20 4 (omega arith) (c.over_whole-4.ensures.contains _ (c.column_sums-sums.ensures.mu plane is)))
+
+pub returns-clause-ends : goal.returns-clause-ends
+returns-clause-ends c = (
+  quotient_below 2 (omega arith) c.column_sums-sums.ensures.ends.0 c.over_whole.ensures.ends,
+  quotient_below 2 (omega arith) c.column_sums-sums.ensures.ends.1 c.over_whole-2.ensures.ends,
+  quotient_below 2 (omega arith) c.column_sums-sums.ensures.ends.2 c.over_whole-3.ensures.ends,
+  quotient_below 4 (omega arith) c.column_sums-sums.ensures.ends.3 c.over_whole-4.ensures.ends,
+)
