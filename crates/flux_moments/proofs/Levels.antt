@@ -12,7 +12,7 @@ use Rattle.exact_algebra.proofs.Division.{floor_is_greatest, ceiling_by_floor}
 use Rattle.exact_algebra.proofs.Fraction.{Fraction, one, ◌⊕◌, ◌⊗◌, ◌⊖◌, inverse, sign, fractions, ◌≼◌}
 use Rattle.exact_algebra.proofs.Order as Order
 use Rattle.exact_algebra.proofs.Order.{order_from, no_more, at_most, scaled, equal}
-use Rattle.exact_algebra.proofs.Ring.{ring}
+use Rattle.exact_algebra.proofs.Ring.{ring, ring_from, given, none}
 use Rattle.exact_algebra.proofs.Span.{ContainsFraction}
 use Rattle.exact_algebra.proofs.Whole.{whole, whole-add, whole-sub, whole-mul, whole-≼, positive-whole, nonnegative-whole}
 use Rattle.exact_algebra.proofs.WholeNumbers.{integers}
@@ -208,3 +208,31 @@ module _ (plane : Waterplane) (first last x : ℤ) (length : ℕ) (some : 0 < le
       high : (whole a2 ⊗ (Fore ⊖ X) ⊕ whole f2 ⊗ (X ⊖ Aft)) ⊗ P ≼ whole hi ⊗ (Fore ⊖ Aft)
       high = Order.≼_trans fractions (Order.≼_same fractions (sym (whole-mixed a2 f2)))
           (Order.≼_trans fractions (whole-≼ e.high.above) (Order.≼_same fractions (whole-mul hi (pos length) ∙ ap (λ y. whole hi ⊗ y) whole-length)))
+
+-- ---- levels that are the same at both ends
+floor_exact : (n z : ℤ) (d : ℕ) → 0 < d → n ≡ z *ℤ pos d → IsFloor n d z
+floor_exact n z d some e = record { below = omega (arith, ints, e); next = omega (arith, ints, e, some, next_up) }
+  where
+    next_up : (z +ℤ pos 1) *ℤ pos d ≡ z *ℤ pos d +ℤ pos d
+    next_up = ring integers (z ∷ pos d ∷ []) ((var 0 :+ unit) :* var 1) (var 0 :* var 1 :+ var 1) refl
+
+ceiling_exact : (n z : ℤ) (d : ℕ) → 0 < d → n ≡ z *ℤ pos d → IsCeiling n d z
+ceiling_exact n z d some e = record { above = omega (arith, ints, e); before = omega (arith, ints, e, some, next_down) }
+  where
+    next_down : (z -ℤ pos 1) *ℤ pos d ≡ z *ℤ pos d -ℤ pos d
+    next_down = ring integers (z ∷ pos d ∷ []) ((var 0 :- unit) :* var 1) (var 0 :* var 1 :- var 1) refl
+
+module _ (plane : Waterplane) (first last x : ℤ) (length : ℕ) (some : 0 < length) (is : pos length ≡ last -ℤ first) where
+  mixed_same : (m : ℤ) → (m *ℤ (last -ℤ x) +ℤ m *ℤ (x -ℤ first)) *ℤ pos 1024 ≡ (m *ℤ pos 1024) *ℤ pos length
+  mixed_same m = ring_from integers (m ∷ last ∷ x ∷ first ∷ pos length ∷ pos 1024 ∷ []) ((opposite (var 0 :* var 5), var 4, var 1 :- var 3) ∷ [])
+      (given is none) ((var 0 :* (var 1 :- var 2) :+ var 0 :* (var 2 :- var 3)) :* var 5) ((var 0 :* var 5) :* var 4) refl
+
+  pub same_encloses : (a1 a2 f1 f2 lo hi : ℤ) → a1 ≡ f1 → a2 ≡ f2 → lo ≡ a1 *ℤ pos 1024 → hi ≡ a2 *ℤ pos 1024 → pos 0 ≤ℤ (last -ℤ x) → pos 0 ≤ℤ (x -ℤ first)
+      → ContainsFraction 10 a1 a2 plane.a → ContainsFraction 10 f1 f2 plane.f → ContainsFraction 20 lo hi (level_at plane first last (whole x))
+  same_encloses a1 a2 f1 f2 lo hi e g low high before behind at_a at_f = level_encloses plane first last x length some is a1 a2 f1 f2 lo hi before behind at_a at_f (record {
+    low = rw (sym e, low) (floor_exact ((a1 *ℤ (last -ℤ x) +ℤ a1 *ℤ (x -ℤ first)) *ℤ pos 1024) (a1 *ℤ pos 1024) length some (mixed_same a1));
+    high = rw (sym g, high) (ceiling_exact ((a2 *ℤ (last -ℤ x) +ℤ a2 *ℤ (x -ℤ first)) *ℤ pos 1024) (a2 *ℤ pos 1024) length some (mixed_same a2));
+  })
+
+pub same_span : (low high : ℤ) → low ≤ℤ high → unsigned_abs low ≤ 2 ^ 30 → unsigned_abs high ≤ 2 ^ 30 → IsSpan 20 (low *ℤ pos 1024) (high *ℤ pos 1024)
+same_span low high order h k = record { ordered = omega (arith, ints, order); low = omega (arith, ints, h); high = omega (arith, ints, k); scaled = omega arith }

@@ -121,6 +121,36 @@ fn levels_at(planes: &PlaneBox, way: Way, x: i64) -> Span<20>
     ensures ends { EndsAtMost (2 ^ 40) result.lo result.hi }
     ensures contains { (plane : Waterplane) → IsIn planes.now plane → ContainsFraction 20 result.lo result.hi (level_at plane way.first way.last (whole x)) }
 {
+    if planes.a1 == planes.f1 && planes.a2 == planes.f2 {
+        same_levels(planes.a1, planes.a2)
+    } else {
+        trimmed_levels_at(planes, way, x)
+    }
+}
+
+/// All levels from one to another.
+fn same_levels(low: i64, high: i64) -> Span<20>
+    requires order { low ≤ℤ high }
+    requires low { unsigned_abs low ≤ 2 ^ 30 }
+    requires high { unsigned_abs high ≤ 2 ^ 30 }
+    ensures ends { EndsAtMost (2 ^ 40) result.lo result.hi }
+    ensures units { (result.lo ≡ low *ℤ pos 1024) × (result.hi ≡ high *ℤ pos 1024) }
+{
+    match Span::new(
+        i128::from(low * UNITS_IN_GRID),
+        i128::from(high * UNITS_IN_GRID),
+    ) {
+        Some(span) => span,
+        None => unreachable!(),
+    }
+}
+
+/// The levels at x where those at both ends may differ.
+fn trimmed_levels_at(planes: &PlaneBox, way: Way, x: i64) -> Span<20>
+    requires { (way.first ≤ℤ x) × (x ≤ℤ way.last) }
+    ensures ends { EndsAtMost (2 ^ 40) result.lo result.hi }
+    ensures contains { (plane : Waterplane) → IsIn planes.now plane → ContainsFraction 20 result.lo result.hi (level_at plane way.first way.last (whole x)) }
+{
     let (behind, before) = (x - way.first, way.last - x);
     let low = mixed(planes.a1, planes.f1, before, behind);
     let high = mixed(planes.a2, planes.f2, before, behind);
