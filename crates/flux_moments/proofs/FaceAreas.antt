@@ -28,11 +28,8 @@ across_below p q n m = omega (arith, ints, n.port, n.starboard, m.port, m.starbo
 up_below : (p q : Node) → IsNode p → IsNode q → unsigned_abs (q.z -ℤ p.z) ≤ 131070
 up_below p q n m = omega (arith, ints, n.height.0, n.height.1, m.height.0, m.height.1)
 
-product_below : (a b : ℤ) → unsigned_abs a ≤ 524287 → unsigned_abs b ≤ 131070 → unsigned_abs (a *ℤ b) < 2 ^ 36
-product_below a b h k = omega (arith, unsigned_abs-mul a b, mul-le-mul h k)
-
-turned_product_below : (a b : ℤ) → unsigned_abs a ≤ 131070 → unsigned_abs b ≤ 524287 → unsigned_abs (a *ℤ b) < 2 ^ 36
-turned_product_below a b h k = omega (arith, unsigned_abs-mul a b, mul-le-mul h k)
+product_below : (m n : ℕ) (a b : ℤ) → m * n < 2 ^ 36 → unsigned_abs a ≤ m → unsigned_abs b ≤ n → unsigned_abs (a *ℤ b) < 2 ^ 36
+product_below m n a b small h k = omega (arith, small, unsigned_abs-mul a b, mul-le-mul h k)
 
 difference_below : (a b : ℤ) → unsigned_abs a < 2 ^ 36 → unsigned_abs b < 2 ^ 36 → MagnitudeBelow 37 (a -ℤ b)
 difference_below a b h k = omega (arith, ints, h, k)
@@ -53,12 +50,12 @@ areas_below f is = (subst (λ (z : ℤ). MagnitudeBelow 37 z) (sym (ap (λ (g : 
     at i = corner_is_node f.p i is.corners
 
     side : MagnitudeBelow 37 (doubled_area (triangle_of f)).y
-    side = difference_below ((way a b).z *ℤ (way a c).x) ((way a b).x *ℤ (way a c).z) (turned_product_below (way a b).z (way a c).x (up_below a b (at 0) (at 1)) (along_below a c (at 0) (at 2)))
-        (product_below (way a b).x (way a c).z (along_below a b (at 0) (at 1)) (up_below a c (at 0) (at 2)))
+    side = difference_below ((way a b).z *ℤ (way a c).x) ((way a b).x *ℤ (way a c).z) (product_below 131070 524287 (way a b).z (way a c).x (omega arith) (up_below a b (at 0) (at 1)) (along_below a c (at 0) (at 2)))
+        (product_below 524287 131070 (way a b).x (way a c).z (omega arith) (along_below a b (at 0) (at 1)) (up_below a c (at 0) (at 2)))
 
     top : MagnitudeBelow 37 (doubled_area (triangle_of f)).z
-    top = difference_below ((way a b).x *ℤ (way a c).y) ((way a b).y *ℤ (way a c).x) (product_below (way a b).x (way a c).y (along_below a b (at 0) (at 1)) (across_below a c (at 0) (at 2)))
-        (turned_product_below (way a b).y (way a c).x (across_below a b (at 0) (at 1)) (along_below a c (at 0) (at 2)))
+    top = difference_below ((way a b).x *ℤ (way a c).y) ((way a b).y *ℤ (way a c).x) (product_below 524287 131070 (way a b).x (way a c).y (omega arith) (along_below a b (at 0) (at 1)) (across_below a c (at 0) (at 2)))
+        (product_below 131070 524287 (way a b).y (way a c).x (omega arith) (across_below a b (at 0) (at 1)) (along_below a c (at 0) (at 2)))
 
 -- ---- the ends of the factor
 pub sum_within : (x y p q : ℤ) → MagnitudeBelow 37 p → MagnitudeBelow 37 q → unsigned_abs x ≤ 2 ^ 40 * unsigned_abs p → unsigned_abs y ≤ 2 ^ 40 * unsigned_abs q → unsigned_abs (x +ℤ y) < 2 ^ 78

@@ -1,8 +1,7 @@
 -- Spans of heights and sides: how far cosine and sine reach, what their multiples contain, and the size of the ends.
 use Rattle.std.proofs.Common.{◌≡◌, refl, [], ◌∷◌, ℕ, ◌+◌, ◌*◌, ◌<◌, ◌≤◌, ◌^◌, ℤ, pos, neg_ℤ, unsigned_abs, ◌+ℤ◌, ◌-ℤ◌, ◌*ℤ◌, ◌≤ℤ◌, subst, w64, arith}
 use mir.Val.{SFits, hbits}
-use Rattle.std.proofs.Math.Nat.{mul-le-mul_right}
-use Rattle.std.proofs.lemmas.Int.{ints, clamps, unsigned_abs-mul, fits_signed_from_abs}
+use Rattle.std.proofs.lemmas.Int.{ints, clamps, fits_signed_from_abs}
 use Rattle.std.specs.Int.{int_min, int_max}
 use Rattle.angle_bounds.proofs.Order.{spans_contain_each_direction}
 use Rattle.angle_bounds.proofs.Squares.{legs}
@@ -21,6 +20,7 @@ use Rattle.hull_model.specs.declared.node.Node.{Node}
 use Rattle.hull_model.specs.Waterplane.{Waterplane, Position, height, side_distance}
 use Rattle.outward_interval.proofs.Quotients.{le-times}
 use Rattle.outward_interval.specs.Ends.{EndsBelow, AreEnds, AreLeastEnds}
+use Rattle.flux_moments.proofs.Levels.{product-small}
 use Rattle.flux_moments.specs.Limits.{EndsAtMost}
 use Rattle.flux_moments.specs.Planes.{HasDirectionIn, cosine, sine}
 
@@ -60,17 +60,14 @@ pub sine_contained : (b : Bracket) (plane : Waterplane) → HasDirectionIn b pla
 sine_contained b plane h = quotient_contained b.s.lo b.s.hi (pos plane.s) plane.r plane.positive (ratios_contained b plane h).1
 
 -- ---- multiples by a whole number
-product_at_most : (x n : ℤ) → unsigned_abs x ≤ 2 ^ 40 → unsigned_abs (x *ℤ n) ≤ 2 ^ 40 * unsigned_abs n
-product_at_most x n h = rw (unsigned_abs-mul x n) (mul-le-mul_right (unsigned_abs n) h)
-
 pub products_below : (a b n : ℤ) → EndsAtMost (2 ^ 40) a b → MagnitudeBelow 41 n → EndsBelow 126 (a *ℤ n) (b *ℤ n)
-products_below a b n ends small = record { low = below _ _ (product_at_most a n ends.low) small; high = below _ _ (product_at_most b n ends.high) small }
+products_below a b n ends small = record { low = below _ _ (product-small (2 ^ 40) a n ends.low) small; high = below _ _ (product-small (2 ^ 40) b n ends.high) small }
   where
     below : (x k : ℕ) → x ≤ 2 ^ 40 * k → k < 2 ^ 41 → x < 2 ^ 126
     below x k h l = omega (arith, h, l)
 
 pub products_at_most : (a b n lo hi : ℤ) → EndsAtMost (2 ^ 40) a b → AreEnds (int_min (a *ℤ n) (b *ℤ n)) (int_max (a *ℤ n) (b *ℤ n)) lo hi → EndsAtMost (2 ^ 40 * unsigned_abs n) lo hi
-products_at_most a b n lo hi ends are = chosen (2 ^ 40 * unsigned_abs n) (a *ℤ n) (b *ℤ n) lo hi (product_at_most a n ends.low) (product_at_most b n ends.high) are.low are.high
+products_at_most a b n lo hi ends are = chosen (2 ^ 40 * unsigned_abs n) (a *ℤ n) (b *ℤ n) lo hi (product-small (2 ^ 40) a n ends.low) (product-small (2 ^ 40) b n ends.high) are.low are.high
   where
     least : (k : ℕ) (p q lo : ℤ) → unsigned_abs p ≤ k → unsigned_abs q ≤ k → lo ≡ int_min p q → unsigned_abs lo ≤ k
     least k p q lo h l e = omega (arith, ints, clamps)

@@ -1,8 +1,7 @@
 -- How far the ends of products of spans may lie.
-use Rattle.std.proofs.Common.{ℕ, suc, ◌≡◌, refl, sym, subst, ◌+◌, ◌*◌, ◌^◌, ◌<◌, ◌≤◌, ℤ, pos, negsuc, neg_ℤ, ◌+ℤ◌, ◌-ℤ◌, ◌*ℤ◌, ◌≤ℤ◌, ◌<ℤ◌, unsigned_abs, arith}
+use Rattle.std.proofs.Common.{ℕ, zero, suc, ◌≡◌, refl, sym, subst, ◌+◌, ◌*◌, ◌^◌, ◌<◌, ◌≤◌, ℤ, pos, neg_ℤ, ◌+ℤ◌, ◌-ℤ◌, ◌*ℤ◌, unsigned_abs, arith}
 use Rattle.std.proofs.lemmas.Int.{ints, clamps, unsigned_abs-mul}
 use Rattle.std.proofs.lemmas.Nat.{mul-lt}
-use Rattle.std.proofs.Math.Nat.{lt_of_mul-lt-mul_right}
 use Rattle.std.specs.Int.{int_min, int_max}
 use mathlib.Core.List.{[], ◌∷◌}
 use Rattle.exact_algebra.specs.Expression.{var, opposite, ◌:*◌, ◌:+◌, ◌:-◌, unit}
@@ -11,6 +10,7 @@ use Rattle.exact_algebra.proofs.Ring.{ring}
 use Rattle.exact_algebra.proofs.WholeNumbers.{integers}
 use Rattle.exact_algebra.proofs.Products.{least_of, greatest_of}
 use Rattle.outward_interval.specs.Ends.{EndsBelow, ProductsBelow, AreEnds, AreLeastEnds, least_product, greatest_product}
+use Rattle.flux_moments.proofs.Levels.{floor-small}
 use Rattle.flux_moments.specs.Limits.{EndsAtMost}
 
 -- both ends are below this in magnitude
@@ -36,21 +36,12 @@ products_fit M N {a} {b} {c} {d} fits h k = record {
 negative_product : (z D : ℤ) → neg_ℤ z *ℤ D ≡ neg_ℤ (z *ℤ D)
 negative_product z D = ring integers (z ∷ D ∷ []) (opposite (var 0) :* var 1) (opposite (var 0 :* var 1)) refl
 
+positive : (K D : ℕ) {n : ℕ} → n < K * D → 0 < D
+positive K zero h = absurd (omega (arith, h))
+positive K (suc D) h = omega arith
+
 pub floor_at_most : (K D : ℕ) (n z : ℤ) → unsigned_abs n < K * D → IsFloor n D z → unsigned_abs z ≤ K
-floor_at_most K D n (pos z) h f = omega (arith, lt_of_mul-lt-mul_right D (less f.below))
-  where
-    less : (pos (z * D)) ≤ℤ n → z * D < K * D
-    less g = omega (arith, ints, g, h)
-floor_at_most K D n (negsuc z) h f = omega (arith, ints, lt_of_mul-lt-mul_right D (less (subst (λ (w : ℤ). n <ℤ w) turned f.next)))
-  where
-    one_up : negsuc z +ℤ pos 1 ≡ neg_ℤ (pos z)
-    one_up = omega (arith, ints)
-
-    turned : (negsuc z +ℤ pos 1) *ℤ pos D ≡ neg_ℤ (pos (z * D))
-    turned = rw one_up (negative_product (pos z) (pos D))
-
-    less : n <ℤ neg_ℤ (pos (z * D)) → z * D < K * D
-    less g = omega (arith, ints, g, h)
+floor_at_most K D n z h f = floor-small n z D K (positive K D h) (omega (arith, h)) f
 
 pub ceiling_at_most : (K D : ℕ) (n z : ℤ) → unsigned_abs n < K * D → IsCeiling n D z → unsigned_abs z ≤ K
 ceiling_at_most K D n z h c = omega (arith, ints, floor_at_most K D (neg_ℤ n) (neg_ℤ z) turned_size turned)
