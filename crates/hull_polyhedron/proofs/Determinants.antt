@@ -196,6 +196,10 @@ pub sign-mul : (b : Bool) (x y : Fraction) → with_sign b (x ⊗ y) ≡ x ⊗ w
 sign-mul true x y = refl
 sign-mul false x y = ring fraction_ring (x ∷ y ∷ []) (opposite (var 0 :* var 1)) (var 0 :* opposite (var 1)) refl
 
+pub with_sign-mul : (b : Bool) (x y : Fraction) → with_sign b x ⊗ y ≡ with_sign b (x ⊗ y)
+with_sign-mul true x y = refl
+with_sign-mul false x y = ring fraction_ring (x ∷ y ∷ []) (opposite (var 0) :* var 1) (opposite (var 0 :* var 1)) refl
+
 abbrev pub IsRight : Bool → Tetrahedron Position → Type 0
 IsRight b t = sign (with_sign b (determinant t)) ≢ below
 
@@ -203,23 +207,23 @@ pub right_outwards : (b : Bool) (t : Tetrahedron Position) → PointOutwards b t
 right_outwards true t h = Order.nonnegative_from fractions h
 right_outwards false t h = Order.nonnegative_same fractions (ring fraction_ring (determinant t ∷ []) (opposite (var 0)) (number 0 :- var 0) refl) h
 
-pub magnitude_right : (b : Bool) (t : Tetrahedron Position) → IsRight b t → magnitude (determinant t) ≡ with_sign b (determinant t)
+pub magnitude_signed : (b : Bool) (x : Fraction) → sign (with_sign b x) ≢ below → magnitude x ≡ with_sign b x
 unfolding magnitude
-magnitude_right b t n = go b (determinant t) n
+magnitude_signed true x n = by_sign (sign x) refl
   where
-    by_sign : (s : Sign) (x : Fraction) → sign x ≡ s → s ≢ below → magnitude_by s x ≡ x
-    by_sign above x e n = refl
-    by_sign level x e n = refl
-    by_sign below x e n = absurd (n refl)
+    by_sign : (s : Sign) → sign x ≡ s → magnitude_by s x ≡ x
+    by_sign above e = refl
+    by_sign level e = refl
+    by_sign below e = absurd (n e)
+magnitude_signed false x n = by_sign (sign x) refl
+  where
+    by_sign : (s : Sign) → sign x ≡ s → magnitude_by s x ≡ negative x
+    by_sign below e = refl
+    by_sign level e = ring_from fraction_ring (x ∷ []) ((number 2, var 0, number 0) ∷ []) (given (fractions.laws.nought_from_sign x e) none) (var 0) (opposite (var 0)) refl
+    by_sign above e = absurd (n (fractions.laws.sign-negative x ∙ ap turned e))
 
-    by_sign_turned : (s : Sign) (x : Fraction) → sign x ≡ s → sign (negative x) ≢ below → magnitude_by s x ≡ negative x
-    by_sign_turned below x e n = refl
-    by_sign_turned level x e n = ring_from fraction_ring (x ∷ []) ((number 2, var 0, number 0) ∷ []) (given (fractions.laws.nought_from_sign x e) none) (var 0) (opposite (var 0)) refl
-    by_sign_turned above x e n = absurd (n (fractions.laws.sign-negative x ∙ ap turned e))
-
-    go : (b : Bool) (x : Fraction) → sign (with_sign b x) ≢ below → magnitude_by (sign x) x ≡ with_sign b x
-    go true x n = by_sign (sign x) x refl n
-    go false x n = by_sign_turned (sign x) x refl n
+pub magnitude_right : (b : Bool) (t : Tetrahedron Position) → IsRight b t → magnitude (determinant t) ≡ with_sign b (determinant t)
+magnitude_right b t n = magnitude_signed b (determinant t) n
 
 part_right : (b : Bool) (t : Fraction) (w p : Tetrahedron Position) → sign t ≡ above → determinant p ≡ t ⊗ determinant w → IsRight b w → IsRight b p
 part_right b t w p up e n = Order.nonnegative_same fractions (ap (with_sign b) e ∙ sign-mul b t (determinant w)) (Order.nonnegative-mul fractions (Order.nonnegative_positive fractions up) n)

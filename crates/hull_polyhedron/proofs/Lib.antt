@@ -17,8 +17,11 @@ pub mod Flux
 pub mod Pieces
 pub mod Placed
 pub mod Determinants
-pub mod ColumnForm
+pub mod SeenForm
+pub mod PieceSums
 pub mod OneTetrahedron
 pub mod OutwardSolids
 pub mod WholeHull
 pub mod ColumnMeans
+pub mod LidOfTetrahedron
+pub mod LidOfHull

@@ -2,9 +2,8 @@
 use native.Mathlib.Omega.{arith}
 use mathlib.Core.Path.{◌≡◌, refl, sym, ◌∙◌, ap, ap₂}
 use mathlib.Core.List.{List, [], ◌∷◌}
-use mathlib.Core.Bool.{Bool, true, false}
+use mathlib.Core.Bool.{Bool, true}
 use lib.IntN.{ℤ, pos}
-use Rattle.std.specs.List.{AllByRecursion}
 use Rattle.exact_algebra.specs.Expression.{Expression, var, unit, number, ◌:+◌, ◌:-◌, ◌:*◌, opposite}
 use Rattle.exact_algebra.proofs.Ring.{ring, ring_from, none, given}
 use Rattle.exact_algebra.proofs.Fraction.{Fraction, nought, one, ◌⊕◌, ◌⊗◌, inverse, fraction_ring}
@@ -19,10 +18,11 @@ use Rattle.hull_polyhedron.specs.Columns.{depth, middle, column_sum}
 use Rattle.hull_polyhedron.specs.CentralLaw.{AreColumnSums, faces_turned, PointOutwards, CentralLawOfTetrahedra}
 use Rattle.hull_polyhedron.proofs.Flux.{ar, A, B, C}
 use Rattle.hull_polyhedron.proofs.Flux.{D}
-use Rattle.hull_polyhedron.proofs.Pieces.{kept_none_below, all_kept, sum_kept}
-use Rattle.hull_polyhedron.proofs.Placed.{IsLinearFunction, side_linear, height_linear, sum_four, six_by, flow, flow_splits, flow_dry, flow_wet}
-use Rattle.hull_polyhedron.proofs.Determinants.{with_sign, IsRight, right_outwards, magnitude_right, right_parts, six_depth, six_determinant}
-use Rattle.hull_polyhedron.proofs.ColumnForm.{N24, whole_inverse, cancel_24, turned-flow}
+use Rattle.hull_polyhedron.proofs.Pieces.{kept_none_below}
+use Rattle.hull_polyhedron.proofs.Placed.{IsLinearFunction, side_linear, height_linear, sum_four, six_by, flow, flow_wet}
+use Rattle.hull_polyhedron.proofs.Determinants.{with_sign, with_sign-mul, IsRight, magnitude_right, six_depth, six_determinant}
+use Rattle.hull_polyhedron.proofs.SeenForm.{N24, whole_inverse, column_sum-seen}
+use Rattle.hull_polyhedron.proofs.PieceSums.{pieces_by_faces}
 
 -- ---- a twenty-fourth
 whole_four : whole (pos 4) ≡ one ⊕ one ⊕ one ⊕ one
@@ -58,41 +58,18 @@ module _ (plane : Waterplane) (first last : ℤ) where
   module _ (g f : Position → Fraction) (f_linear : IsLinearFunction f) (mean_along : IsMeanAlong g f)
       (term : Tetrahedron Position → Fraction) (is_term : (p : Tetrahedron Position) → term p ⊗ N24 ≡ magnitude (determinant p) ⊗ sum_four g p) where
     abbrev flow_of : Tetrahedron Position → Fraction
-    flow_of = flow plane first last f f_linear
+    flow_of = flow plane first last f h
 
     -- a kept piece
     piece_flow : (p : Tetrahedron Position) → is_kept corners p ≡ true → flow_of p ≡ determinant p ⊗ sum_four g p
-    piece_flow p k = flow_wet plane first last f f_linear p (kept_none_below (side corners p.a) (side corners p.b) (side corners p.c) (side corners p.d) k)
+    piece_flow p k = flow_wet plane first last f p (kept_none_below (side corners p.a) (side corners p.b) (side corners p.c) (side corners p.d) k)
         ∙ mean_along p ∙ ap (λ x. x ⊗ sum_four g p) (six_determinant plane first last p)
 
     piece_term : (b : Bool) (p : Tetrahedron Position) → is_kept corners p ≡ true → IsRight b p → term p ⊗ N24 ≡ with_sign b (flow_of p)
-    piece_term b p k right = is_term p ∙ ap (λ x. x ⊗ sum_four g p) (magnitude_right b p right) ∙ moved b (determinant p) (sum_four g p) ∙ ap (with_sign b) (sym (piece_flow p k))
-      where
-        moved : (b : Bool) (x y : Fraction) → with_sign b x ⊗ y ≡ with_sign b (x ⊗ y)
-        moved true x y = refl
-        moved false x y = ring fraction_ring (x ∷ y ∷ []) (opposite (var 0) :* var 1) (opposite (var 0 :* var 1)) refl
-
-    sum_terms : (b : Bool) (ps : List (Tetrahedron Position)) → AllByRecursion (λ p. (is_kept corners p ≡ true) × IsRight b p) ps → sum_over term ps ⊗ N24 ≡ with_sign b (sum_over flow_of ps)
-    unfolding sum_over
-    sum_terms b [] all = none_left b
-      where
-        none_left : (b : Bool) → nought ⊗ N24 ≡ with_sign b nought
-        none_left true = ring fraction_ring (N24 ∷ []) (number 0 :* var 0) (number 0) refl
-        none_left false = ring fraction_ring (N24 ∷ []) (number 0 :* var 0) (opposite (number 0)) refl
-    sum_terms b (p ∷ ps) all = ring_from fraction_ring (term p ∷ sum_over term ps ∷ N24 ∷ with_sign b (flow_of p) ∷ with_sign b (sum_over flow_of ps) ∷ [])
-        ((unit, var 0 :* var 2, var 3) ∷ (unit, var 1 :* var 2, var 4) ∷ []) (given (piece_term b p all.0.0 all.0.1) (given (sum_terms b ps all.1) none))
-        ((var 0 :+ var 1) :* var 2) (var 3 :+ var 4) refl
-        ∙ added b (flow_of p) (sum_over flow_of ps)
-      where
-        added : (b : Bool) (x y : Fraction) → with_sign b x ⊕ with_sign b y ≡ with_sign b (x ⊕ y)
-        added true x y = refl
-        added false x y = ring fraction_ring (x ∷ y ∷ []) (opposite (var 0) :+ opposite (var 1)) (opposite (var 0 :+ var 1)) refl
+    piece_term b p k right = is_term p ∙ ap (λ x. x ⊗ sum_four g p) (magnitude_right b p right) ∙ with_sign-mul b (determinant p) (sum_four g p) ∙ ap (with_sign b) (sym (piece_flow p k))
 
     pub column_law : (b : Bool) (t : Tetrahedron Position) → PointOutwards b t → sum_over term (kept_pieces corners t) ≡ column_sum plane first last f (faces_turned b t)
-    column_law b t out = cancel_24 (
-        sum_terms b (kept_pieces corners t) (all_kept corners (IsRight b) (right_parts plane first last b) t (right_outwards b t out))
-        ∙ ap (with_sign b) (sum_kept corners (depth_linear plane first last) flow_of (flow_splits plane first last f f_linear) (flow_dry plane first last f f_linear) t)
-        ∙ sym (turned-flow plane first last f f_linear b t))
+    column_law b t out = pieces_by_faces plane first last f h f_linear (depth_linear plane first last) term b (piece_term b) t out ∙ sym (column_sum-seen plane first last f (faces_turned b t))
 
   -- ---- the four pairs of functions
   six_of : Expression → Expression → Expression → Expression → Expression
@@ -101,19 +78,23 @@ module _ (plane : Waterplane) (first last : ℤ) where
   abbrev values : Tetrahedron Position → List Fraction
   values t = one ∷ t.a.x ∷ side_distance plane t.a ∷ t.b.x ∷ side_distance plane t.b ∷ t.c.x ∷ side_distance plane t.c ∷ t.d.x ∷ side_distance plane t.d ∷ []
 
-  -- a function whose determinant is 0 is its own mean along the column
-  flat_along : (f : Position → Fraction) → ((t : Tetrahedron Position) → six f t ≡ nought) → IsMeanAlong f f
+  -- the function is the same at all heights
+  abbrev pub IsFlat : (Position → Fraction) → Type 0
+  IsFlat f = (t : Tetrahedron Position) → six_by plane first last f t ≡ nought
+
+  -- so it is its own mean along the column
+  flat_along : (f : Position → Fraction) → IsFlat f → IsMeanAlong f f
   flat_along f flat t = ring_from fraction_ring (six h t ∷ six f t ∷ sum_four h t ∷ sum_four f t ∷ []) ((var 2, var 1, number 0) ∷ []) (given (flat t) none) (var 0 :* var 3 :+ var 1 :* var 2) (var 0 :* var 3) refl
 
-  one_flat : (t : Tetrahedron Position) → six (λ p. one) t ≡ nought
+  pub one_flat : IsFlat (λ p. one)
   unfolding six_by six_of
   one_flat t = ring fraction_ring (values t) (six_of unit unit unit unit) (number 0) refl
 
-  x_flat : (t : Tetrahedron Position) → six (λ p. p.x) t ≡ nought
+  pub x_flat : IsFlat (λ p. p.x)
   unfolding six_by six_of
   x_flat t = ring fraction_ring (values t) (six_of (var 1) (var 3) (var 5) (var 7)) (number 0) refl
 
-  side_flat : (t : Tetrahedron Position) → six (side_distance plane) t ≡ nought
+  pub side_flat : IsFlat (side_distance plane)
   unfolding six_by six_of
   side_flat t = ring fraction_ring (values t) (six_of (var 2) (var 4) (var 6) (var 8)) (number 0) refl
 

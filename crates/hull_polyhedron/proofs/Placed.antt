@@ -3,7 +3,7 @@
 use mathlib.Core.Path.{◌≡◌, refl, sym, ◌∙◌, ap}
 use mathlib.Core.List.{[], ◌∷◌}
 use mathlib.Core.Logic.{◌≢◌}
-use mathlib.Core.Bool.{Bool, true, false}
+use mathlib.Core.Bool.{true, false}
 use lib.IntN.{ℤ, pos}
 use Rattle.exact_algebra.specs.Expression.{Expression, var, unit, number, ◌:+◌, ◌:-◌, ◌:*◌, opposite}
 use Rattle.exact_algebra.specs.OrderedField.{Sign, below, level, above}
@@ -26,29 +26,43 @@ use Rattle.hull_polyhedron.proofs.Pieces.{AtEdges, sides_none_below, sides_none_
 true-ne-false : true ≡ false → ⊥
 true-ne-false h = cc
 
-level_from : (s : Sign) → Over.is_above s ≡ false → s ≢ below → s ≡ level
-level_from above e n = absurd (true-ne-false e)
-level_from level e n = refl
-level_from below e n = absurd (n refl)
+-- what counts of a face of which no corner is below: nothing where all three are level
+unfoldable pub face_by : Sign → Sign → Sign → Fraction → Fraction
+face_by level level level m = nought
+face_by _ _ _ m = m
 
--- depths h, k, l, and the values of a function there
-form_none_below : (h k l u w z : Fraction) → sign h ≢ below → sign k ≢ below → sign l ≢ below → form (h, u, h) (k, w, k) (l, z, l) ≡ Form.twelve fractions (h, u, h) (k, w, k) (l, z, l)
-form_none_below h k l u w z p q r = go (Over.is_above (sign h)) (Over.is_above (sign k)) (Over.is_above (sign l)) refl refl refl
+pub form_none_below : (a b c : Form.Corner fractions) → sign a.0 ≢ below → sign b.0 ≢ below → sign c.0 ≢ below → form a b c ≡ face_by (sign a.0) (sign b.0) (sign c.0) (Form.twelve fractions a b c)
+unfolding face_by
+form_none_below a b c x y z = go (sign a.0) (sign b.0) (sign c.0) refl refl refl x y z
   where
-    some : (Over.is_above (sign h) ≡ false → Over.is_above (sign k) ≡ false → Over.is_above (sign l) ≡ false → ⊥) → form (h, u, h) (k, w, k) (l, z, l) ≡ Form.twelve fractions (h, u, h) (k, w, k) (l, z, l)
-    some n = Form.form_wet fractions (h, u, h) (k, w, k) (l, z, l) p q r n
+    some : (Over.is_above (sign a.0) ≡ false → Over.is_above (sign b.0) ≡ false → Over.is_above (sign c.0) ≡ false → ⊥) → form a b c ≡ Form.twelve fractions a b c
+    some n = Form.form_wet fractions a b c x y z n
 
-    nought_at : (x : Fraction) → Over.is_above (sign x) ≡ false → sign x ≢ below → x ≡ nought
-    nought_at x e n = fractions.laws.nought_from_sign x (level_from (sign x) e n)
+    go : (p q r : Sign) → sign a.0 ≡ p → sign b.0 ≡ q → sign c.0 ≡ r → p ≢ below → q ≢ below → r ≢ below → form a b c ≡ face_by p q r (Form.twelve fractions a b c)
+    go above q r e f g k l m = some (λ d _ _. true-ne-false (sym (ap Over.is_above e) ∙ d))
+    go level above r e f g k l m = some (λ _ d _. true-ne-false (sym (ap Over.is_above f) ∙ d))
+    go level level above e f g k l m = some (λ _ _ d. true-ne-false (sym (ap Over.is_above g) ∙ d))
+    go level level level e f g k l m = Form.form_none_over fractions a b c (ap Over.is_above e) (ap Over.is_above f) (ap Over.is_above g)
+    go below q r e f g k l m = absurd (k refl)
+    go level below r e f g k l m = absurd (l refl)
+    go level level below e f g k l m = absurd (m refl)
 
-    go : (a b c : Bool) → Over.is_above (sign h) ≡ a → Over.is_above (sign k) ≡ b → Over.is_above (sign l) ≡ c → form (h, u, h) (k, w, k) (l, z, l) ≡ Form.twelve fractions (h, u, h) (k, w, k) (l, z, l)
-    go true b c e f g = some (λ d _ _. true-ne-false (sym e ∙ d))
-    go false true c e f g = some (λ _ d _. true-ne-false (sym f ∙ d))
-    go false false true e f g = some (λ _ _ d. true-ne-false (sym g ∙ d))
-    go false false false e f g = ring_from fraction_ring (h ∷ k ∷ l ∷ u ∷ w ∷ z ∷ form (h, u, h) (k, w, k) (l, z, l) ∷ [])
-        ((unit, var 6, number 0) ∷ (opposite (var 3 :+ (var 3 :+ var 4 :+ var 5)), var 0, number 0) ∷ (opposite (var 4 :+ (var 3 :+ var 4 :+ var 5)), var 1, number 0) ∷ (opposite (var 5 :+ (var 3 :+ var 4 :+ var 5)), var 2, number 0) ∷ [])
-        (given (Form.form_none_over fractions (h, u, h) (k, w, k) (l, z, l) e f g) (given (nought_at h e p) (given (nought_at k f q) (given (nought_at l g r) none))))
-        (var 6) ((var 3 :* var 0 :+ var 4 :* var 1 :+ var 5 :* var 2) :+ (var 3 :+ var 4 :+ var 5) :* (var 0 :+ var 1 :+ var 2)) refl
+-- with the depth itself as a factor, a level face counts as a whole too
+form_by_depth : (h k l u w z : Fraction) → sign h ≢ below → sign k ≢ below → sign l ≢ below → form (h, u, h) (k, w, k) (l, z, l) ≡ Form.twelve fractions (h, u, h) (k, w, k) (l, z, l)
+unfolding face_by
+form_by_depth h k l u w z x y n = form_none_below (h, u, h) (k, w, k) (l, z, l) x y n ∙ go (sign h) (sign k) (sign l) refl refl refl
+  where
+    go : (p q r : Sign) → sign h ≡ p → sign k ≡ q → sign l ≡ r → face_by p q r (Form.twelve fractions (h, u, h) (k, w, k) (l, z, l)) ≡ Form.twelve fractions (h, u, h) (k, w, k) (l, z, l)
+    go above q r e f g = refl
+    go below q r e f g = refl
+    go level above r e f g = refl
+    go level below r e f g = refl
+    go level level above e f g = refl
+    go level level below e f g = refl
+    go level level level e f g = ring_from fraction_ring (h ∷ k ∷ l ∷ u ∷ w ∷ z ∷ [])
+        ((opposite (var 3 :+ (var 3 :+ var 4 :+ var 5)), var 0, number 0) ∷ (opposite (var 4 :+ (var 3 :+ var 4 :+ var 5)), var 1, number 0) ∷ (opposite (var 5 :+ (var 3 :+ var 4 :+ var 5)), var 2, number 0) ∷ [])
+        (given (fractions.laws.nought_from_sign h e) (given (fractions.laws.nought_from_sign k f) (given (fractions.laws.nought_from_sign l g) none)))
+        (number 0) ((var 3 :* var 0 :+ var 4 :* var 1 :+ var 5 :* var 2) :+ (var 3 :+ var 4 :+ var 5) :* (var 0 :+ var 1 :+ var 2)) refl
 
 -- ---- functions of positions that are linear
 abbrev pub IsLinearFunction : (Position → Fraction) → Type 0
@@ -84,33 +98,16 @@ module _ (plane : Waterplane) (first last : ℤ) where
   unfoldable pub six_by : (Position → Fraction) → Tetrahedron Position → Fraction
   six_by f t = (f t.d ⊖ f t.a) ⊗ area_of plane t.a t.b t.c ⊖ (f t.c ⊖ f t.a) ⊗ area_of plane t.a t.b t.d ⊕ (f t.b ⊖ f t.a) ⊗ area_of plane t.a t.c t.d
 
-  module _ (f : Position → Fraction) (f_linear : IsLinearFunction f) where
+  module _ (f g : Position → Fraction) where
     abbrev pub vertex : Position → Vertex
-    vertex p = record { x = p.x; v = side_distance plane p; at = (depth plane first last p, f p, depth plane first last p) }
-
-    vertex-between : (t : Fraction) (p q : Position) → between t (vertex p) (vertex q) ≡ vertex (corners.between t p q)
-    vertex-between t p q = λ i. record {
-      x = interpolated t p.x q.x;
-      v = sym (side_linear plane t p q) i;
-      at = (sym (depth_linear plane first last t p q) i, sym (f_linear t p q) i, sym (depth_linear plane first last t p q) i);
-    }
+    vertex p = record { x = p.x; v = side_distance plane p; at = (depth plane first last p, f p, g p) }
 
     unfoldable pub flow : Tetrahedron Position → Fraction
     flow t = fluxes (vertex t.a) (vertex t.b) (vertex t.c) (vertex t.d)
 
-    abbrev parameter : Position → Position → Fraction
-    parameter p q = h p ⊗ inverse (h p ⊖ h q)
-
-    pub flow_splits : AtEdges corners (λ t p q. flow t ≡ flow p ⊕ flow q)
-    unfolding flow crossing
-    flow_splits = record {
-      ab = λ a b c d e. split_ab (parameter a b) (vertex a) (vertex b) (vertex c) (vertex d) ∙ ap (λ (m : Vertex). fluxes m (vertex b) (vertex c) (vertex d) ⊕ fluxes (vertex a) m (vertex c) (vertex d)) (vertex-between (parameter a b) a b);
-      ac = λ a b c d e. split_ac (parameter a c) (vertex a) (vertex b) (vertex c) (vertex d) ∙ ap (λ (m : Vertex). fluxes m (vertex b) (vertex c) (vertex d) ⊕ fluxes (vertex a) (vertex b) m (vertex d)) (vertex-between (parameter a c) a c);
-      ad = λ a b c d e. split_ad (parameter a d) (vertex a) (vertex b) (vertex c) (vertex d) ∙ ap (λ (m : Vertex). fluxes m (vertex b) (vertex c) (vertex d) ⊕ fluxes (vertex a) (vertex b) (vertex c) m) (vertex-between (parameter a d) a d);
-      bc = λ a b c d e. split_bc (parameter b c) (vertex a) (vertex b) (vertex c) (vertex d) ∙ ap (λ (m : Vertex). fluxes (vertex a) m (vertex c) (vertex d) ⊕ fluxes (vertex a) (vertex b) m (vertex d)) (vertex-between (parameter b c) b c);
-      bd = λ a b c d e. split_bd (parameter b d) (vertex a) (vertex b) (vertex c) (vertex d) ∙ ap (λ (m : Vertex). fluxes (vertex a) m (vertex c) (vertex d) ⊕ fluxes (vertex a) (vertex b) (vertex c) m) (vertex-between (parameter b d) b d);
-      cd = λ a b c d e. split_cd (parameter c d) (vertex a) (vertex b) (vertex c) (vertex d) ∙ ap (λ (m : Vertex). fluxes (vertex a) (vertex b) m (vertex d) ⊕ fluxes (vertex a) (vertex b) (vertex c) m) (vertex-between (parameter c d) c d);
-    }
+    -- twelve times the mean of the product over the whole of a face
+    abbrev pub whole_face : Position → Position → Position → Fraction
+    whole_face p q r = Form.twelve fractions (vertex p).at (vertex q).at (vertex r).at
 
     -- ---- no corner above
     pub flow_dry : (t : Tetrahedron Position) → sides_none_above corners t → flow t ≡ nought
@@ -133,39 +130,67 @@ module _ (plane : Waterplane) (first last : ℤ) where
         d : Vertex
         d = vertex t.d
 
-    -- ---- no corner below
-    abbrev twelve_of : Expression × Expression → Expression × Expression → Expression × Expression → Expression
-    twelve_of p q r = (p.1 :* p.0 :+ q.1 :* q.0 :+ r.1 :* r.0) :+ (p.1 :+ q.1 :+ r.1) :* (p.0 :+ q.0 :+ r.0)
+    -- the sum with the whole of each face
+    unfoldable pub whole_faces : Tetrahedron Position → Fraction
+    whole_faces t = area_of plane t.b t.c t.d ⊗ whole_face t.b t.c t.d ⊖ area_of plane t.a t.c t.d ⊗ whole_face t.a t.c t.d ⊕ area_of plane t.a t.b t.d ⊗ whole_face t.a t.b t.d ⊖ area_of plane t.a t.b t.c ⊗ whole_face t.a t.b t.c
 
-    pub flow_wet : (t : Tetrahedron Position) → sides_none_below corners t → flow t ≡ six_by h t ⊗ sum_four f t ⊕ six_by f t ⊗ sum_four h t
-    unfolding flow fluxes area six_by
-    flow_wet t n = ring_from fraction_ring
-        (one ∷ t.a.x ∷ v t.a ∷ t.b.x ∷ v t.b ∷ t.c.x ∷ v t.c ∷ t.d.x ∷ v t.d ∷ h t.a ∷ h t.b ∷ h t.c ∷ h t.d ∷ f t.a ∷ f t.b ∷ f t.c ∷ f t.d ∷ m t.b t.c t.d ∷ m t.a t.c t.d ∷ m t.a t.b t.d ∷ m t.a t.b t.c ∷ [])
-        ((ar B C D, var 17, twelve_of hb hc hd) ∷ (opposite (ar A C D), var 18, twelve_of ha hc hd) ∷ (ar A B D, var 19, twelve_of ha hb hd) ∷ (opposite (ar A B C), var 20, twelve_of ha hb hc) ∷ [])
-        (given (known t.b t.c t.d n.1 n.2 n.3) (given (known t.a t.c t.d n.0 n.2 n.3) (given (known t.a t.b t.d n.0 n.1 n.3) (given (known t.a t.b t.c n.0 n.1 n.2) none))))
-        (ar B C D :* var 17 :- ar A C D :* var 18 :+ ar A B D :* var 19 :- ar A B C :* var 20)
+    pub whole-faces : (t : Tetrahedron Position) → whole_faces t ≡ six_by g t ⊗ sum_four f t ⊕ six_by f t ⊗ sum_four g t
+    unfolding whole_faces six_by
+    whole-faces t = ring fraction_ring
+        (one ∷ t.a.x ∷ v t.a ∷ t.b.x ∷ v t.b ∷ t.c.x ∷ v t.c ∷ t.d.x ∷ v t.d ∷ g t.a ∷ g t.b ∷ g t.c ∷ g t.d ∷ f t.a ∷ f t.b ∷ f t.c ∷ f t.d ∷ [])
+        (ar B C D :* twelve_of gb gc gd :- ar A C D :* twelve_of ga gc gd :+ ar A B D :* twelve_of ga gb gd :- ar A B C :* twelve_of ga gb gc)
         (six (var 9) (var 10) (var 11) (var 12) :* (var 13 :+ var 14 :+ var 15 :+ var 16) :+ six (var 13) (var 14) (var 15) (var 16) :* (var 9 :+ var 10 :+ var 11 :+ var 12)) refl
       where
         v : Position → Fraction
         v = side_distance plane
 
-        m : Position → Position → Position → Fraction
-        m p q r = form (h p, f p, h p) (h q, f q, h q) (h r, f r, h r)
+        twelve_of : Expression × Expression → Expression × Expression → Expression × Expression → Expression
+        twelve_of p q r = (p.1 :* p.0 :+ q.1 :* q.0 :+ r.1 :* r.0) :+ (p.1 :+ q.1 :+ r.1) :* (p.0 :+ q.0 :+ r.0)
 
-        known : (p q r : Position) → sign (h p) ≢ below → sign (h q) ≢ below → sign (h r) ≢ below → m p q r ≡ Form.twelve fractions (h p, f p, h p) (h q, f q, h q) (h r, f r, h r)
-        known p q r = form_none_below (h p) (h q) (h r) (f p) (f q) (f r)
+        ga : Expression × Expression
+        ga = (var 9, var 13)
 
-        ha : Expression × Expression
-        ha = (var 9, var 13)
+        gb : Expression × Expression
+        gb = (var 10, var 14)
 
-        hb : Expression × Expression
-        hb = (var 10, var 14)
+        gc : Expression × Expression
+        gc = (var 11, var 15)
 
-        hc : Expression × Expression
-        hc = (var 11, var 15)
-
-        hd : Expression × Expression
-        hd = (var 12, var 16)
+        gd : Expression × Expression
+        gd = (var 12, var 16)
 
         six : Expression → Expression → Expression → Expression → Expression
         six a b c d = (d :- a) :* ar A B C :- (c :- a) :* ar A B D :+ (b :- a) :* ar A C D
+
+    -- ---- splits
+    module _ (f_linear : IsLinearFunction f) (g_linear : IsLinearFunction g) where
+      vertex-between : (t : Fraction) (p q : Position) → between t (vertex p) (vertex q) ≡ vertex (corners.between t p q)
+      vertex-between t p q = λ i. record {
+        x = interpolated t p.x q.x;
+        v = sym (side_linear plane t p q) i;
+        at = (sym (depth_linear plane first last t p q) i, sym (f_linear t p q) i, sym (g_linear t p q) i);
+      }
+
+      abbrev parameter : Position → Position → Fraction
+      parameter p q = h p ⊗ inverse (h p ⊖ h q)
+
+      pub flow_splits : AtEdges corners (λ t p q. flow t ≡ flow p ⊕ flow q)
+      unfolding flow crossing
+      flow_splits = record {
+        ab = λ a b c d e. split_ab (parameter a b) (vertex a) (vertex b) (vertex c) (vertex d) ∙ ap (λ (m : Vertex). fluxes m (vertex b) (vertex c) (vertex d) ⊕ fluxes (vertex a) m (vertex c) (vertex d)) (vertex-between (parameter a b) a b);
+        ac = λ a b c d e. split_ac (parameter a c) (vertex a) (vertex b) (vertex c) (vertex d) ∙ ap (λ (m : Vertex). fluxes m (vertex b) (vertex c) (vertex d) ⊕ fluxes (vertex a) (vertex b) m (vertex d)) (vertex-between (parameter a c) a c);
+        ad = λ a b c d e. split_ad (parameter a d) (vertex a) (vertex b) (vertex c) (vertex d) ∙ ap (λ (m : Vertex). fluxes m (vertex b) (vertex c) (vertex d) ⊕ fluxes (vertex a) (vertex b) (vertex c) m) (vertex-between (parameter a d) a d);
+        bc = λ a b c d e. split_bc (parameter b c) (vertex a) (vertex b) (vertex c) (vertex d) ∙ ap (λ (m : Vertex). fluxes (vertex a) m (vertex c) (vertex d) ⊕ fluxes (vertex a) (vertex b) m (vertex d)) (vertex-between (parameter b c) b c);
+        bd = λ a b c d e. split_bd (parameter b d) (vertex a) (vertex b) (vertex c) (vertex d) ∙ ap (λ (m : Vertex). fluxes (vertex a) m (vertex c) (vertex d) ⊕ fluxes (vertex a) (vertex b) (vertex c) m) (vertex-between (parameter b d) b d);
+        cd = λ a b c d e. split_cd (parameter c d) (vertex a) (vertex b) (vertex c) (vertex d) ∙ ap (λ (m : Vertex). fluxes (vertex a) (vertex b) m (vertex d) ⊕ fluxes (vertex a) (vertex b) (vertex c) m) (vertex-between (parameter c d) c d);
+      }
+
+  -- ---- no corner below, with the depth as the second function
+  module _ (f : Position → Fraction) where
+    pub flow_wet : (t : Tetrahedron Position) → sides_none_below corners t → flow f h t ≡ six_by h t ⊗ sum_four f t ⊕ six_by f t ⊗ sum_four h t
+    unfolding flow fluxes area whole_faces
+    flow_wet t n = (λ i. area_of plane t.b t.c t.d ⊗ known t.b t.c t.d n.1 n.2 n.3 i ⊖ area_of plane t.a t.c t.d ⊗ known t.a t.c t.d n.0 n.2 n.3 i
+        ⊕ area_of plane t.a t.b t.d ⊗ known t.a t.b t.d n.0 n.1 n.3 i ⊖ area_of plane t.a t.b t.c ⊗ known t.a t.b t.c n.0 n.1 n.2 i) ∙ whole-faces f h t
+      where
+        known : (p q r : Position) → sign (h p) ≢ below → sign (h q) ≢ below → sign (h r) ≢ below → form (h p, f p, h p) (h q, f q, h q) (h r, f r, h r) ≡ whole_face f h p q r
+        known p q r = form_by_depth (h p) (h q) (h r) (f p) (f q) (f r)

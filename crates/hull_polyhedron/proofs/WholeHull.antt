@@ -1,4 +1,4 @@
--- The central law of the hull: the columns of its tetrahedra's faces, summed over faces that are balanced against them.
+-- What is summed over the faces of a hull's tetrahedra has the same sum over faces that are balanced against them; the central law of the hull.
 use mathlib.Core.Path.{◌≡◌, refl, sym, ◌∙◌, ap, ap₂}
 use mathlib.Core.List.{List, [], ◌∷◌}
 use mathlib.Core.Bool.{Bool, true, false}
@@ -27,12 +27,10 @@ use Rattle.hull_model.specs.Submerged.{first_x, last_x, submerged_pieces, submer
 use Rattle.hull_model.proofs.Balance.{balanced_sums}
 use Rattle.hull_polyhedron.proofs.SixVolume.{solids_of_hull}
 use Rattle.hull_model.proofs.ShareSplits.{sum_over-append}
-use Rattle.hull_model.proofs.TriangleLaws.{depth_at}
-use Rattle.hull_polyhedron.specs.Columns.{depth, middle, by_corners, area_y, area_z, seen_area, column, column_sum, triangle_at}
+use Rattle.hull_polyhedron.specs.Columns.{depth, middle, by_corners, area_y, area_z, seen_area, column_sum, seen_part, seen_sum, triangle_at}
 use Rattle.hull_polyhedron.specs.CentralLaw.{faces_turned, PointOutwards, CentralLaw}
-use Rattle.hull_polyhedron.proofs.Placed.{IsLinearFunction, side_linear}
-use Rattle.hull_polyhedron.proofs.ColumnForm.{column-turned, column-rotated}
-use Rattle.hull_polyhedron.proofs.OneTetrahedron.{are_column_sums, one_linear, middle_linear}
+use Rattle.hull_polyhedron.proofs.SeenForm.{seen-turned, seen-rotated, column_sum-seen}
+use Rattle.hull_polyhedron.proofs.OneTetrahedron.{are_column_sums}
 use Rattle.hull_polyhedron.proofs.OutwardSolids.{PointsOutwards, solids_point_outwards}
 use Rattle.hull_polyhedron.proofs.Uncut.{whole_minor}
 
@@ -57,32 +55,32 @@ unfolding sum_over
 sum_over-map g make [] = refl
 sum_over-map g make (x ∷ xs) = ap (λ s. g (make x) ⊕ s) (sum_over-map g make xs)
 
-module _ (plane : Waterplane) (first last : ℤ) (f : Position → Fraction) (f_linear : IsLinearFunction f) where
-  abbrev node_column : Triangle Node → Fraction
-  node_column t = column plane first last f (triangle_at t)
+module _ (plane : Waterplane) (first last : ℤ) (f g : Position → Fraction) where
+  abbrev node_part : Triangle Node → Fraction
+  node_part t = seen_part plane first last f g (triangle_at t)
 
-  column-flat : (t : Triangle Node) → doubled_area t ≡ no_area → node_column t ≡ nought
-  unfolding column
-  column-flat t e = ring_from fraction_ring
+  seen-flat : (t : Triangle Node) → doubled_area t ≡ no_area → node_part t ≡ nought
+  unfolding seen_part
+  seen-flat t e = ring_from fraction_ring
       (seen_area plane (triangle_at t) ∷ inverse (whole (pos 2)) ∷ wet ∷ whole (pos plane.s) ∷ whole (pos plane.c) ∷ inverse (whole (pos plane.r)) ∷ whole (doubled_area t).y ∷ whole (doubled_area t).z ∷ [])
       ((var 1 :* var 2, var 0, opposite (var 3 :* var 6 :+ var 4 :* var 7) :* var 5) ∷ (opposite (var 1 :* var 2 :* var 3 :* var 5), var 6, number 0) ∷ (opposite (var 1 :* var 2 :* var 4 :* var 5), var 7, number 0) ∷ [])
       (given (seen_area-node plane t) (given (ap (λ (v : Vector). whole v.y) e ∙ whole-nought) (given (ap (λ (v : Vector). whole v.z) e ∙ whole-nought) none)))
       ((var 0 :* var 1) :* var 2) (number 0) refl
     where
       wet : Fraction
-      wet = wet_mean (product_mean (by_corners (f (position_of t.a)) (f (position_of t.b)) (f (position_of t.c))) depth_at) (depth plane first last (position_of t.a)) (depth plane first last (position_of t.b)) (depth plane first last (position_of t.c))
+      wet = wet_mean (product_mean (by_corners (f (position_of t.a)) (f (position_of t.b)) (f (position_of t.c))) (by_corners (g (position_of t.a)) (g (position_of t.b)) (g (position_of t.c)))) (depth plane first last (position_of t.a)) (depth plane first last (position_of t.b)) (depth plane first last (position_of t.c))
 
-  pub column-alternating : IsAlternating fraction_ring.operations node_column
-  column-alternating = record {
-    turned = λ t. column-turned plane first last f f_linear (triangle_at t);
-    rotated = λ t. column-rotated plane first last f f_linear (triangle_at t);
-    flat = column-flat;
+  pub seen-alternating : IsAlternating fraction_ring.operations node_part
+  seen-alternating = record {
+    turned = λ t. seen-turned plane first last f g (triangle_at t);
+    rotated = λ t. seen-rotated plane first last f g (triangle_at t);
+    flat = seen-flat;
   }
 
-  pub balanced_columns : (faces others : List (Triangle Node)) → AreBalanced faces others → column_sum plane first last f (map triangle_at faces) ≡ column_sum plane first last f (map triangle_at others)
-  balanced_columns faces others balanced = sum_over-map (column plane first last f) triangle_at faces
-      ∙ balanced_sums fraction_ring node_column column-alternating faces others balanced
-      ∙ sym (sum_over-map (column plane first last f) triangle_at others)
+  pub balanced_parts : (faces others : List (Triangle Node)) → AreBalanced faces others → seen_sum plane first last f g (map triangle_at faces) ≡ seen_sum plane first last f g (map triangle_at others)
+  balanced_parts faces others balanced = sum_over-map (seen_part plane first last f g) triangle_at faces
+      ∙ balanced_sums fraction_ring node_part seen-alternating faces others balanced
+      ∙ sym (sum_over-map (seen_part plane first last f g) triangle_at others)
 
   -- ---- the faces of signed tetrahedra
   faces_at : (b : Bool) (t : Tetrahedron Node) → map triangle_at (faces_by b t) ≡ faces_turned b (with_corners position_of t)
@@ -90,34 +88,43 @@ module _ (plane : Waterplane) (first last : ℤ) (f : Position → Fraction) (f_
   faces_at false t = refl
 
   module _ (term : Tetrahedron Position → Fraction)
-      (law : (b : Bool) (t : Tetrahedron Position) → PointOutwards b t → sum_over term (kept_pieces (under plane first last) t) ≡ column_sum plane first last f (faces_turned b t)) where
+      (law : (b : Bool) (t : Tetrahedron Position) → PointOutwards b t → sum_over term (kept_pieces (under plane first last) t) ≡ seen_sum plane first last f g (faces_turned b t)) where
     abbrev pieces_of : List (Tetrahedron Node) → List (Tetrahedron Position)
     pieces_of ts = submerged_pieces plane first last ts
 
     sum_solids : (ss : List Signed) → AllByRecursion PointsOutwards ss
-        → sum_over term (pieces_of (map (λ (s : Signed). s.solid) ss)) ≡ column_sum plane first last f (map triangle_at (flat_map outward_faces ss))
+        → sum_over term (pieces_of (map (λ (s : Signed). s.solid) ss)) ≡ seen_sum plane first last f g (map triangle_at (flat_map outward_faces ss))
     unfolding submerged_pieces sum_over
     sum_solids [] all = refl
     sum_solids (s ∷ ss) all =
         sum_over-append term (kept_pieces (under plane first last) (with_corners position_of s.solid)) (pieces_of (map (λ (s : Signed). s.solid) ss))
-        ∙ ap₂ ◌⊕◌ (law s.outwards (with_corners position_of s.solid) all.0 ∙ ap (column_sum plane first last f) (sym (faces_at s.outwards s.solid))) (sum_solids ss all.1)
-        ∙ sym (sum_over-append (column plane first last f) (map triangle_at (outward_faces s)) (map triangle_at (flat_map outward_faces ss)))
-        ∙ ap (column_sum plane first last f) (sym (map-append triangle_at (outward_faces s) (flat_map outward_faces ss)))
+        ∙ ap₂ ◌⊕◌ (law s.outwards (with_corners position_of s.solid) all.0 ∙ ap (seen_sum plane first last f g) (sym (faces_at s.outwards s.solid))) (sum_solids ss all.1)
+        ∙ sym (sum_over-append (seen_part plane first last f g) (map triangle_at (outward_faces s)) (map triangle_at (flat_map outward_faces ss)))
+        ∙ ap (seen_sum plane first last f g) (sym (map-append triangle_at (outward_faces s) (flat_map outward_faces ss)))
 
     pub sum_hull : (stations : List Station) → IsHull stations → (faces : List (Triangle Node)) → AreBalanced faces (signed_faces stations)
-        → sum_over term (pieces_of (hull_tetrahedra stations)) ≡ column_sum plane first last f (map triangle_at faces)
+        → sum_over term (pieces_of (hull_tetrahedra stations)) ≡ seen_sum plane first last f g (map triangle_at faces)
     sum_hull stations hull faces balanced = ap (λ ts. sum_over term (pieces_of ts)) (sym (solids_of_hull stations))
         ∙ sum_solids (signed_tetrahedra stations) (solids_point_outwards stations hull)
-        ∙ sym (balanced_columns faces (signed_faces stations) balanced)
+        ∙ sym (balanced_parts faces (signed_faces stations) balanced)
+
+-- ---- columns
+module _ (plane : Waterplane) (first last : ℤ) (f : Position → Fraction) (term : Tetrahedron Position → Fraction)
+    (law : (b : Bool) (t : Tetrahedron Position) → PointOutwards b t → sum_over term (kept_pieces (under plane first last) t) ≡ column_sum plane first last f (faces_turned b t)) where
+  sum_columns : (stations : List Station) → IsHull stations → (faces : List (Triangle Node)) → AreBalanced faces (signed_faces stations)
+      → sum_over term (submerged_pieces plane first last (hull_tetrahedra stations)) ≡ column_sum plane first last f (map triangle_at faces)
+  sum_columns stations hull faces balanced =
+      sum_hull plane first last f (depth plane first last) term (λ b t out. law b t out ∙ column_sum-seen plane first last f (faces_turned b t)) stations hull faces balanced
+      ∙ sym (column_sum-seen plane first last f (map triangle_at faces))
 
 -- at every waterplane
 pub central_law : CentralLaw
 unfolding submerged_volume mx mv mu
 central_law plane stations hull faces balanced = record {
-  volume = sum_hull plane first last (λ p. one) (one_linear plane first last) volume_of (λ b t out. (are_column_sums plane first last b t out).volume) stations hull faces balanced;
-  mx = sum_hull plane first last (λ p. p.x) (λ t p q. refl) (λ p. volume_of p ⊗ mean_of (λ p. p.x) p) (λ b t out. (are_column_sums plane first last b t out).mx) stations hull faces balanced;
-  mv = sum_hull plane first last (side_distance plane) (side_linear plane) (λ p. volume_of p ⊗ mean_of (side_distance plane) p) (λ b t out. (are_column_sums plane first last b t out).mv) stations hull faces balanced;
-  mu = sum_hull plane first last (middle plane first last) (middle_linear plane first last) (λ p. volume_of p ⊗ mean_of (height plane) p) (λ b t out. (are_column_sums plane first last b t out).mu) stations hull faces balanced;
+  volume = sum_columns plane first last (λ p. one) volume_of (λ b t out. (are_column_sums plane first last b t out).volume) stations hull faces balanced;
+  mx = sum_columns plane first last (λ p. p.x) (λ p. volume_of p ⊗ mean_of (λ p. p.x) p) (λ b t out. (are_column_sums plane first last b t out).mx) stations hull faces balanced;
+  mv = sum_columns plane first last (side_distance plane) (λ p. volume_of p ⊗ mean_of (side_distance plane) p) (λ b t out. (are_column_sums plane first last b t out).mv) stations hull faces balanced;
+  mu = sum_columns plane first last (middle plane first last) (λ p. volume_of p ⊗ mean_of (height plane) p) (λ b t out. (are_column_sums plane first last b t out).mu) stations hull faces balanced;
 }
   where
     first : ℤ

@@ -47,3 +47,12 @@ module _ (plane : Waterplane) where
 
     abbrev pub column_sum : (Position → Fraction) → List (Triangle Position) → Fraction
     column_sum f faces = sum_over (column f) faces
+
+    -- the integral over the wet part of a face, as it is seen along the height, of the product of two functions that are linear over it
+    unfoldable pub seen_part : (Position → Fraction) → (Position → Fraction) → Triangle Position → Fraction
+    seen_part f g t =
+        seen_area t ⊗ inverse (whole (pos 2))
+        ⊗ wet_mean (product_mean (by_corners (f t.a) (f t.b) (f t.c)) (by_corners (g t.a) (g t.b) (g t.c))) (depth t.a) (depth t.b) (depth t.c)
+
+    abbrev pub seen_sum : (Position → Fraction) → (Position → Fraction) → List (Triangle Position) → Fraction
+    seen_sum f g faces = sum_over (seen_part f g) faces

@@ -6,3 +6,4 @@ pub mod Between
 pub mod Columns
 pub mod ColumnMeans
 pub mod CentralLaw
+pub mod LidLaw

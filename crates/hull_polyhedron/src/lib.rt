@@ -14,5 +14,6 @@ pub use calls::{faces_of, six_volume};
 pub use face_list::FaceList;
 pub use faces::Faces;
 pub use laws::{
-    columns_are_known_by_means, hulls_are_summed_by_columns, tetrahedra_are_summed_by_columns,
+    columns_are_known_by_means, hulls_are_summed_by_columns, lids_are_summed_by_faces,
+    tetrahedra_are_summed_by_columns,
 };
