@@ -1,5 +1,5 @@
 -- How large the area of a face may be as it is seen from the side and from above.
-use Rattle.std.proofs.Common.{ℕ, zero, suc, ◌≡◌, sym, ap, subst, ◌*◌, ◌^◌, ◌<◌, ◌≤◌, ℤ, neg_ℤ, ◌+ℤ◌, ◌-ℤ◌, ◌*ℤ◌, unsigned_abs, List, [], ◌∷◌, get_or, arith}
+use Rattle.std.proofs.Common.{ℕ, zero, suc, pos, ◌≡◌, sym, ap, subst, ◌*◌, ◌^◌, ◌<◌, ◌≤◌, ℤ, neg_ℤ, ◌+ℤ◌, ◌-ℤ◌, ◌*ℤ◌, unsigned_abs, List, [], ◌∷◌, get_or, arith}
 use Rattle.std.proofs.lemmas.Int.{ints, unsigned_abs-mul}
 use Rattle.std.proofs.Math.Nat.{mul-le-mul}
 use Rattle.std.specs.List.{AllByRecursion}
@@ -63,3 +63,17 @@ sum_within x y p q h k i j = omega (arith, ints, h, k, i, j)
 
 pub opposite_below : {x y z : ℤ} → x ≡ neg_ℤ y → y ≡ z → unsigned_abs z < 2 ^ 78 → MagnitudeBelow 79 x
 opposite_below e f h = omega (arith, ints, e, f, h)
+
+-- ---- the area with the other sign
+pub turned_area : (z : ℤ) → pos 0 -ℤ z ≡ neg_ℤ z
+turned_area z = omega (arith, ints)
+
+pub turned_below : (z : ℤ) → MagnitudeBelow 37 z → MagnitudeBelow 37 (pos 0 -ℤ z)
+turned_below z h = omega (arith, ints, h)
+
+-- ---- how far the corners of a face lie
+pub corner_x : (f : Face) → IsFace f → (i : ℕ) → MagnitudeBelow 19 (get_or f.p i origin).x
+corner_x f is i = omega (arith, ints, (corner_is_node f.p i is.corners).place.0, (corner_is_node f.p i is.corners).place.1)
+
+pub corner_y : (f : Face) → IsFace f → (i : ℕ) → MagnitudeBelow 19 (get_or f.p i origin).y
+corner_y f is i = omega (arith, ints, (corner_is_node f.p i is.corners).port, (corner_is_node f.p i is.corners).starboard)

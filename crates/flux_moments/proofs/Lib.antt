@@ -3,5 +3,7 @@ pub mod FaceAreas
 pub mod ProductEnds
 pub mod Heights
 pub mod FaceColumns
+pub mod SeenMeans
 pub mod ColumnSums
+pub mod SeenSums
 pub mod Measured

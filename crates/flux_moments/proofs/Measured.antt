@@ -11,15 +11,18 @@ use Rattle.hull_model.specs.declared.station.Station.{Station}
 use Rattle.hull_model.specs.Body.{IsHull}
 use Rattle.hull_model.specs.Faces.{triangle_of}
 use Rattle.hull_model.specs.Fractions.{sum_over}
+use Rattle.hull_model.specs.Lid.{lid_area, lid_x, lid_yy, lid_xx}
 use Rattle.hull_model.specs.Submerged.{first_x, last_x, submerged_volume, mx, mv, mu}
 use Rattle.hull_model.specs.TriangleCut.{Triangle}
-use Rattle.hull_model.specs.Waterplane.{Waterplane, Position, side_distance}
+use Rattle.hull_model.specs.Waterplane.{Waterplane, Position, side_distance, upright}
 use Rattle.hull_polyhedron.specs.CentralLaw.{IsSummedByColumns}
-use Rattle.hull_polyhedron.specs.Columns.{triangle_at, column, middle}
+use Rattle.hull_polyhedron.specs.Columns.{triangle_at, column, middle, seen_part}
 use Rattle.hull_polyhedron.specs.FacesOf.{AreFacesOf}
+use Rattle.hull_polyhedron.specs.LidLaw.{seen_from_above, LidIsSummedByFaces}
 use Rattle.hull_polyhedron.specs.declared.faces.Faces.{Faces}
+use Rattle.hull_polyhedron.proofs.LidOfHull.{lid_law}
 use Rattle.hull_polyhedron.proofs.WholeHull.{central_law}
-use Rattle.flux_moments.specs.Columns.{face_at, columns_volume, columns_mx, columns_mv, columns_mu}
+use Rattle.flux_moments.specs.Columns.{face_at, columns_volume, columns_mx, columns_mv, columns_mu, lid_parts}
 
 -- what a span holds of a multiple, it holds of the number once it is divided
 pub divided : (F n : ℕ) {lo hi : ℤ} {x : Fraction} → 0 < n → ContainsFraction F lo hi ((x ⊗ whole (pos n)) ⊗ inverse (whole (pos n))) → ContainsFraction F lo hi x
@@ -53,6 +56,27 @@ module _ (plane : Waterplane) (stations : List Station) (hull : IsHull stations)
 
   pub mu_measured : columns_mu plane faces.first_x faces.last_x faces.list ≡ mu plane stations
   mu_measured = placed (λ first last. columns_mu plane first last faces.list) ∙ sum_at (column plane (first_x stations) (last_x stations) (middle plane (first_x stations) (last_x stations))) faces.list ∙ sym law.mu
+
+-- the lid at a level
+module _ (at : Fraction) (stations : List Station) (hull : IsHull stations) (faces : Faces) (are : AreFacesOf stations faces) where
+  lid : LidIsSummedByFaces at stations (map triangle_of faces.list)
+  lid = lid_law at stations hull (map triangle_of faces.list) are.boundary.balanced
+
+  seen : (f g : Position → Fraction) → lid_parts at faces.first_x faces.last_x f g faces.list ≡ seen_from_above at stations f g (map triangle_of faces.list)
+  seen f g = placed (upright at) stations hull faces are (λ first last. lid_parts at first last f g faces.list)
+      ∙ sum_at (seen_part (upright at) (first_x stations) (last_x stations) f g) faces.list
+
+  pub lid_area_seen : lid_parts at faces.first_x faces.last_x (λ p. one) (λ p. one) faces.list ≡ lid_area at stations
+  lid_area_seen = seen (λ p. one) (λ p. one) ∙ sym lid.area
+
+  pub lid_x_seen : lid_parts at faces.first_x faces.last_x (λ p. p.x) (λ p. one) faces.list ≡ lid_x at stations
+  lid_x_seen = seen (λ p. p.x) (λ p. one) ∙ sym lid.x
+
+  pub lid_yy_seen : lid_parts at faces.first_x faces.last_x (λ p. p.y) (λ p. p.y) faces.list ≡ lid_yy at stations
+  lid_yy_seen = seen (λ p. p.y) (λ p. p.y) ∙ sym lid.yy
+
+  pub lid_xx_seen : lid_parts at faces.first_x faces.last_x (λ p. p.x) (λ p. p.x) faces.list ≡ lid_xx at stations
+  lid_xx_seen = seen (λ p. p.x) (λ p. p.x) ∙ sym lid.xx
 
 -- the same number under other names
 pub renamed : (Q : ℤ → ℤ → List Face → Fraction) {first last first' last' : ℤ} {faces faces' : List Face} → first ≡ first' → last ≡ last' → faces ≡ faces' → Q first last faces ≡ Q first' last' faces'

@@ -11,14 +11,9 @@ use Rattle.exact_algebra.proofs.WholeNumbers.{integers}
 use Rattle.exact_algebra.proofs.Products.{least_of, greatest_of}
 use Rattle.outward_interval.specs.Ends.{EndsBelow, ProductsBelow, AreEnds, AreLeastEnds, least_product, greatest_product}
 use Rattle.flux_moments.proofs.Levels.{floor-small}
-use Rattle.flux_moments.specs.Limits.{EndsAtMost}
+use Rattle.flux_moments.specs.Limits.{EndsAtMost, EndsLess}
 
--- both ends are below this in magnitude
-pub record EndsLess (bound : ℕ) (lo hi : ℤ) : Type 0 where
-  pub low : unsigned_abs lo < bound
-  pub high : unsigned_abs hi < bound
-
-product_less : (M N : ℕ) (a c : ℤ) → unsigned_abs a < M → unsigned_abs c < N → unsigned_abs (a *ℤ c) < M * N
+pub product_less : (M N : ℕ) (a c : ℤ) → unsigned_abs a < M → unsigned_abs c < N → unsigned_abs (a *ℤ c) < M * N
 product_less M N a c h k = omega (arith, unsigned_abs-mul a c, mul-lt (unsigned_abs a) (unsigned_abs c) M N h k)
 
 pub products_fit : (M N : ℕ) {a b c d : ℤ} → M * N ≤ 2 ^ 126 → EndsLess M a b → EndsLess N c d → ProductsBelow 126 a b c d
@@ -128,6 +123,16 @@ multiple_ends M N n {lo} {hi} {low} {high} e h are = record {
 
     greater : (B : ℕ) (p q : ℤ) → unsigned_abs p < B → unsigned_abs q < B → unsigned_abs (int_max p q) < B
     greater B p q i j = omega (arith, ints, clamps)
+
+-- a span times a number below 2^37, taken from scale 40 to scale 20
+pub rescaled_ends : (most : ℕ) {lo hi low high : ℤ} → EndsLess (most * 2 ^ 37) lo hi → AreLeastEnds (lo *ℤ pos (2 ^ 20)) (hi *ℤ pos (2 ^ 20)) (2 ^ 40) low high → EndsAtMost (most * 2 ^ 17) low high
+rescaled_ends most {lo} {hi} {low} {high} e are = record {
+  low = floor_at_most (most * 2 ^ 17) (2 ^ 40) (lo *ℤ pos (2 ^ 20)) low (within lo e.low) are.low;
+  high = ceiling_at_most (most * 2 ^ 17) (2 ^ 40) (hi *ℤ pos (2 ^ 20)) high (within hi e.high) are.high;
+}
+  where
+    within : (z : ℤ) → unsigned_abs z < most * 2 ^ 37 → unsigned_abs (z *ℤ pos (2 ^ 20)) < most * 2 ^ 17 * 2 ^ 40
+    within z h = omega (arith, h, unsigned_abs-mul z (pos (2 ^ 20)))
 
 -- sums of spans
 pub sum_fits : (B C : ℕ) {a b c d : ℤ} → B + C ≤ 2 ^ 126 → EndsLess B a b → EndsLess C c d → EndsBelow 126 (a +ℤ c) (b +ℤ d)

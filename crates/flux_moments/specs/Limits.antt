@@ -1,5 +1,5 @@
 -- How far levels and the ends of spans may lie.
-use Rattle.std.specs.Prelude.{ℕ, ◌^◌, ◌≤◌, ℤ, ◌≤ℤ◌}
+use Rattle.std.specs.Prelude.{ℕ, ◌^◌, ◌<◌, ◌≤◌, ℤ, ◌≤ℤ◌}
 use Rattle.std.specs.Int.RustNames.{unsigned_abs}
 
 -- levels of a box in grid units: ordered, and none above the limit
@@ -15,3 +15,8 @@ pub record AreLevels (a1 a2 f1 f2 : ℤ) : Type 0 where
 pub record EndsAtMost (most : ℕ) (lo hi : ℤ) : Type 0 where
   pub low : unsigned_abs lo ≤ most
   pub high : unsigned_abs hi ≤ most
+
+-- both ends are below so many units in magnitude
+pub record EndsLess (bound : ℕ) (lo hi : ℤ) : Type 0 where
+  pub low : unsigned_abs lo < bound
+  pub high : unsigned_abs hi < bound

@@ -1,5 +1,5 @@
 // The columns between a face and the waterplane.
-ghost use Rattle.std.specs.Prelude.{◌≡◌, ◌≤ℤ◌, pos, [], ◌∷◌};
+ghost use Rattle.std.specs.Prelude.{◌≡◌, ◌^◌, ◌≤ℤ◌, pos, [], ◌∷◌};
 ghost use Rattle.std.specs.List.{AllByRecursion};
 ghost use Rattle.exact_algebra.proofs.Fraction.{Fraction, ◌⊗◌, ◌⊕◌, negative};
 ghost use Rattle.exact_algebra.proofs.Span.{ContainsFraction};
@@ -12,6 +12,7 @@ ghost use Rattle.hull_polyhedron.specs.Columns.{middle};
 ghost use Rattle.plane_clip.specs.Enclosure.{CornerDepths, AreWithin, mean_at};
 ghost use Rattle.hull_model.specs.WetMean.{wet_depth};
 ghost use Rattle.flux_moments.specs.Columns.{moment_at, column_volume, column_integral};
+ghost use Rattle.flux_moments.specs.Limits.{EndsAtMost};
 ghost use Rattle.flux_moments.specs.Planes.{IsIn, cosine, sine};
 ghost use Rattle.flux_moments.specs.Wets.{AllFields};
 
@@ -27,6 +28,7 @@ pub(crate) fn columns(face: &Face, planes: &PlaneBox, way: Way) -> Wet
     requires face { IsFace face.now }
     requires between { AllByRecursion (λ n. (way.first ≤ℤ n.x) × (n.x ≤ℤ way.last)) face.now.p }
     ensures ends { AllFields (λ s. EndsBelow 108 s.lo s.hi) result }
+    ensures volume_ends { EndsAtMost (2 ^ 82) result.volume.lo result.volume.hi }
     ensures volume { (plane : Waterplane) → IsIn planes.now plane → ContainsFraction 20 result.volume.lo result.volume.hi (column_volume plane way.first way.last face.now ⊗ whole (pos 2)) }
     ensures mx { (plane : Waterplane) → IsIn planes.now plane → ContainsFraction 20 result.mx.lo result.mx.hi (column_integral plane way.first way.last (λ p. p.x) face.now ⊗ whole (pos 2)) }
     ensures mv { (plane : Waterplane) → IsIn planes.now plane → ContainsFraction 20 result.mv.lo result.mv.hi (column_integral plane way.first way.last (side_distance plane) face.now ⊗ whole (pos 2)) }
@@ -43,7 +45,7 @@ pub(crate) fn columns(face: &Face, planes: &PlaneBox, way: Way) -> Wet
 pub(crate) fn volume_column(face: &Face, planes: &PlaneBox, way: Way) -> Span<20>
     requires face { IsFace face.now }
     requires between { AllByRecursion (λ n. (way.first ≤ℤ n.x) × (n.x ≤ℤ way.last)) face.now.p }
-    ensures ends { EndsBelow 108 result.lo result.hi }
+    ensures ends { EndsAtMost (2 ^ 82) result.lo result.hi }
     ensures contains { (plane : Waterplane) → IsIn planes.now plane → ContainsFraction 20 result.lo result.hi (column_volume plane way.first way.last face.now ⊗ whole (pos 2)) }
 {
     let [p, q, r] = face.p;
@@ -58,6 +60,7 @@ pub(crate) fn volume_column(face: &Face, planes: &PlaneBox, way: Way) -> Span<20
 fn columns_at(first: &Corner, second: &Corner, third: &Corner, factor: Span<40>) -> Wet
     requires factor { EndsBelow 79 factor.lo factor.hi }
     ensures ends { AllFields (λ s. EndsBelow 108 s.lo s.hi) result }
+    ensures volume_ends { EndsAtMost (2 ^ 82) result.volume.lo result.volume.hi }
     ensures volume { (d : CornerDepths) (a : Fraction) → AreWithin (first.now.depth ∷ second.now.depth ∷ third.now.depth ∷ []) d → ContainsFraction 40 factor.lo factor.hi a → ContainsFraction 20 result.volume.lo result.volume.hi (mean_at wet_depth d ⊗ a) }
     ensures mx { (d : CornerDepths) (a : Fraction) → AreWithin (first.now.depth ∷ second.now.depth ∷ third.now.depth ∷ []) d → ContainsFraction 40 factor.lo factor.hi a → ContainsFraction 20 result.mx.lo result.mx.hi (moment_at d a (whole first.now.x) (whole second.now.x) (whole third.now.x)) }
     ensures mv { (d : CornerDepths) (a u v w : Fraction) → AreWithin (first.now.depth ∷ second.now.depth ∷ third.now.depth ∷ []) d → ContainsFraction 40 factor.lo factor.hi a → ContainsFraction 20 first.now.side.lo first.now.side.hi u → ContainsFraction 20 second.now.side.lo second.now.side.hi v → ContainsFraction 20 third.now.side.lo third.now.side.hi w → ContainsFraction 20 result.mv.lo result.mv.hi (moment_at d a u v w) }

@@ -3,12 +3,14 @@
 
 mod corner;
 mod face_columns;
+mod lid_sums;
 mod plane_box;
 mod sums;
 #[cfg(test)]
 mod tests;
 mod wet;
 
+pub use lid_sums::{LidSums, lid};
 pub use plane_box::PlaneBox;
 pub use sums::{measure, volume_below};
 pub use wet::Wet;

@@ -14,7 +14,7 @@ ghost use Rattle.hull_polyhedron.specs.Between.{LieBetween};
 ghost use Rattle.hull_polyhedron.specs.FacesOf.{AreFacesOf};
 ghost use Rattle.flux_moments.specs.Columns.{columns_volume, columns_mx, columns_mv, columns_mu};
 ghost use Rattle.outward_interval.specs.Ends.{EndsBelow};
-ghost use Rattle.flux_moments.specs.Limits.{EndsAtMost};
+ghost use Rattle.flux_moments.specs.Limits.{EndsLess};
 ghost use Rattle.flux_moments.specs.Planes.{IsIn};
 ghost use Rattle.flux_moments.specs.Wets.{AllFields};
 
@@ -28,14 +28,16 @@ use outward_interval::Span;
 /// Encloses the volume, and the integrals of x, of the distance towards the low side and of the height, of the part of a
 /// hull that lies below a plane, for each plane of the box. The faces are the hull's boundary.
 ///
-/// The ends lie below 2^123 in magnitude. One pass over the faces: each stands for the column between its wet part and the plane, and a face that points
-/// downwards adds what one that points upwards takes away.
+/// The ends lie below 2^96 in magnitude for the volume and below 2^123 for the integrals. One pass over the faces: each
+/// stands for the column between its wet part and the plane, and a face that points downwards adds what one that points
+/// upwards takes away.
 pub fn measure(faces: &Faces, planes: &PlaneBox) -> Wet
     ensures volume { (stations : List Station) → IsHull stations → AreFacesOf stations faces.now → (plane : Waterplane) → IsIn planes.now plane → ContainsFraction 20 result.volume.lo result.volume.hi (submerged_volume plane stations) }
     ensures mx { (stations : List Station) → IsHull stations → AreFacesOf stations faces.now → (plane : Waterplane) → IsIn planes.now plane → ContainsFraction 20 result.mx.lo result.mx.hi (submerged.mx plane stations) }
     ensures mv { (stations : List Station) → IsHull stations → AreFacesOf stations faces.now → (plane : Waterplane) → IsIn planes.now plane → ContainsFraction 20 result.mv.lo result.mv.hi (submerged.mv plane stations) }
     ensures mu { (stations : List Station) → IsHull stations → AreFacesOf stations faces.now → (plane : Waterplane) → IsIn planes.now plane → ContainsFraction 20 result.mu.lo result.mu.hi (submerged.mu plane stations) }
     ensures ends { AllFields (λ s. EndsBelow 123 s.lo s.hi) result }
+    ensures volume_ends { EndsBelow 96 result.volume.lo result.volume.hi }
 {
     let way = Way {
         first: faces.first_x(),
@@ -52,7 +54,7 @@ pub fn measure(faces: &Faces, planes: &PlaneBox) -> Wet
 
 /// Encloses the volume alone, as [`measure`] does, at less cost.
 pub fn volume_below(faces: &Faces, planes: &PlaneBox) -> Span<20>
-    ensures ends { EndsBelow 123 result.lo result.hi }
+    ensures ends { EndsBelow 96 result.lo result.hi }
     ensures volume { (stations : List Station) → IsHull stations → AreFacesOf stations faces.now → (plane : Waterplane) → IsIn planes.now plane → ContainsFraction 20 result.lo result.hi (submerged_volume plane stations) }
 {
     let way = Way {
@@ -68,7 +70,7 @@ fn volume_sum(faces: &[Face], planes: &PlaneBox, way: Way) -> Span<20>
     requires limits { AllByRecursion IsFace faces.now }
     requires between { LieBetween way.first way.last faces.now }
     requires few { length faces.now < 2 ^ 14 }
-    ensures ends { EndsAtMost (2 ^ 122) result.lo result.hi }
+    ensures ends { EndsLess (2 ^ 96) result.lo result.hi }
     ensures volume { (plane : Waterplane) → IsIn planes.now plane → ContainsFraction 20 result.lo result.hi (columns_volume plane way.first way.last faces.now ⊗ whole (pos 2)) }
 {
     let mut sum = nothing();
@@ -84,7 +86,8 @@ fn column_sums(faces: &[Face], planes: &PlaneBox, way: Way) -> Wet
     requires limits { AllByRecursion IsFace faces.now }
     requires between { LieBetween way.first way.last faces.now }
     requires few { length faces.now < 2 ^ 14 }
-    ensures ends { AllFields (λ s. EndsAtMost (2 ^ 122) s.lo s.hi) result }
+    ensures ends { AllFields (λ s. EndsLess (2 ^ 122) s.lo s.hi) result }
+    ensures volume_ends { EndsLess (2 ^ 96) result.volume.lo result.volume.hi }
     ensures volume { (plane : Waterplane) → IsIn planes.now plane → ContainsFraction 20 result.volume.lo result.volume.hi (columns_volume plane way.first way.last faces.now ⊗ whole (pos 2)) }
     ensures mx { (plane : Waterplane) → IsIn planes.now plane → ContainsFraction 20 result.mx.lo result.mx.hi (columns_mx plane way.first way.last faces.now ⊗ whole (pos 2)) }
     ensures mv { (plane : Waterplane) → IsIn planes.now plane → ContainsFraction 20 result.mv.lo result.mv.hi (columns_mv plane way.first way.last faces.now ⊗ whole (pos 2)) }
@@ -103,7 +106,8 @@ fn column_sums(faces: &[Face], planes: &PlaneBox, way: Way) -> Wet
     sums
 }
 
-fn nothing() -> Span<20>
+/// The span of 0 alone.
+pub(crate) fn nothing() -> Span<20>
     ensures { (result.lo ≡ pos 0) × (result.hi ≡ pos 0) }
 {
     match Span::new(0, 0) {

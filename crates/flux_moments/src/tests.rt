@@ -1,4 +1,6 @@
 // Hulls below upright planes. The values were computed by a program that cuts the tetrahedra by exact fractions.
+mod lids;
+
 ghost use Rattle.std.specs.Prelude.{◌≡◌, IfSome};
 ghost use Rattle.flux_moments.specs.Wets.{AllFields};
 

@@ -54,3 +54,6 @@ returns-clause-mu c d a u v w within factor first_at second_at third_at =
     let second = mean 1 c.index-means-1.result (weighted_depth 1) (omega arith) c.wet_depths-means.ensures.weighted d within in
     let third = mean 2 c.index-means-2.result (weighted_depth 2) (omega arith) c.wet_depths-means.ensures.weighted d within in
     sum_contains 20 _ _ _ _ _ _ _ _ c.add-moments.ensures.mu (sum_contains 20 _ _ _ _ _ _ _ _ c.add.ensures.mu (c.weighted.ensures.mu _ a u first factor first_at) (c.weighted-2.ensures.mu _ a v second factor second_at)) (c.weighted-3.ensures.mu _ a w third factor third_at)
+
+pub returns-clause-volume_ends : goal.returns-clause-volume_ends
+returns-clause-volume_ends c = product_ends (2 ^ 43) (2 ^ 79) (2 ^ 82) (2 ^ 40) (omega arith) (less 43 c.wet_depths-means.ensures.depth_bounded) (less 79 c.requires.factor) c.scaled_by.ensures.ends

@@ -2,14 +2,14 @@ use Rattle.std.proofs.Common.{◌^◌, arith, subst}
 use Rattle.exact_algebra.proofs.Fraction.{Fraction}
 use Rattle.exact_algebra.proofs.Span.{ContainsFraction}
 use Rattle.flux_moments.proofs.FaceColumns.{depths, volume_doubled}
-use Rattle.flux_moments.proofs.ProductEnds.{products_fit, product_ends, less, at_most_below}
+use Rattle.flux_moments.proofs.ProductEnds.{products_fit, product_ends, less}
 use Rattle.flux_moments.proofs.face_columns.volume_column.Goals as goal
 
 pub scaled_by-requires : goal.scaled_by-requires
 scaled_by-requires c = (omega arith, (omega arith, products_fit (2 ^ 43) (2 ^ 79) (omega arith) (less 43 c.wet_depths-means.ensures.depth_bounded) (less 79 c.factor_of.ensures.ends)))
 
 pub returns-clause-ends : goal.returns-clause-ends
-returns-clause-ends c = at_most_below (2 ^ 82) 108 (omega arith) (product_ends (2 ^ 43) (2 ^ 79) (2 ^ 82) (2 ^ 40) (omega arith) (less 43 c.wet_depths-means.ensures.depth_bounded) (less 79 c.factor_of.ensures.ends) c.scaled_by.ensures.ends)
+returns-clause-ends c = (product_ends (2 ^ 43) (2 ^ 79) (2 ^ 82) (2 ^ 40) (omega arith) (less 43 c.wet_depths-means.ensures.depth_bounded) (less 79 c.factor_of.ensures.ends) c.scaled_by.ensures.ends)
 
 pub returns-clause-contains : goal.returns-clause-contains
 returns-clause-contains c plane is =

@@ -1,10 +1,11 @@
-use Rattle.std.proofs.Common.{◌∙◌, subst, arith}
+use Rattle.std.proofs.Common.{ℤ, ◌^◌, ◌∙◌, subst, arith}
 use Rattle.std.proofs.lemmas.Int.{to_z-of_z}
 use Rattle.std.specs.Int.{w64}
 use mir.Val.{SFits}
 use Rattle.exact_algebra.proofs.Fraction.{Fraction}
 use Rattle.exact_algebra.proofs.Span.{ContainsFraction}
 use Rattle.flux_moments.specs.Columns.{columns_volume, columns_mx, columns_mv, columns_mu}
+use Rattle.flux_moments.specs.Limits.{EndsLess}
 use Rattle.flux_moments.proofs.ColumnSums.{quotient_below}
 use Rattle.flux_moments.proofs.Measured.{divided, renamed, volume_measured, mx_measured, mv_measured, mu_measured}
 use Rattle.flux_moments.proofs.sums.measure.Goals as goal
@@ -43,8 +44,14 @@ returns-clause-mu c stations hull are plane is =
 
 pub returns-clause-ends : goal.returns-clause-ends
 returns-clause-ends c = (
-  quotient_below 2 (omega arith) c.column_sums-sums.ensures.ends.0 c.over_whole.ensures.ends,
-  quotient_below 2 (omega arith) c.column_sums-sums.ensures.ends.1 c.over_whole-2.ensures.ends,
-  quotient_below 2 (omega arith) c.column_sums-sums.ensures.ends.2 c.over_whole-3.ensures.ends,
-  quotient_below 4 (omega arith) c.column_sums-sums.ensures.ends.3 c.over_whole-4.ensures.ends,
+  quotient_below 123 2 (omega arith) (omega arith) (wider c.column_sums-sums.ensures.ends.0) c.over_whole.ensures.ends,
+  quotient_below 123 2 (omega arith) (omega arith) (wider c.column_sums-sums.ensures.ends.1) c.over_whole-2.ensures.ends,
+  quotient_below 123 2 (omega arith) (omega arith) (wider c.column_sums-sums.ensures.ends.2) c.over_whole-3.ensures.ends,
+  quotient_below 123 4 (omega arith) (omega arith) (wider c.column_sums-sums.ensures.ends.3) c.over_whole-4.ensures.ends,
 )
+  where
+    wider : {lo hi : ℤ} → EndsLess (2 ^ 122) lo hi → EndsLess (2 ^ 123) lo hi
+    wider e = record { low = omega (arith, e.low); high = omega (arith, e.high) }
+
+pub returns-clause-volume_ends : goal.returns-clause-volume_ends
+returns-clause-volume_ends c = quotient_below 96 2 (omega arith) (omega arith) c.column_sums-sums.ensures.volume_ends c.over_whole.ensures.ends

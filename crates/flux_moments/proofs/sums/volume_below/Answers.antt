@@ -19,4 +19,4 @@ returns-clause-volume c stations hull are plane is =
     (divided 20 2 (omega arith) (c.over_whole.ensures.contains _ (c.volume_sum-sum.ensures.volume plane is)))
 
 pub returns-clause-ends : goal.returns-clause-ends
-returns-clause-ends c = quotient_below 2 (omega arith) c.volume_sum-sum.ensures.ends c.over_whole.ensures.ends
+returns-clause-ends c = quotient_below 96 2 (omega arith) (omega arith) c.volume_sum-sum.ensures.ends c.over_whole.ensures.ends
