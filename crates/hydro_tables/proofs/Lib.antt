@@ -1,0 +1,9 @@
+pub mod QuotientEnds
+pub mod WholeUnits
+pub mod CoarseEnds
+pub mod MomentEnds
+pub mod LevelPlanes
+pub mod Inverses
+pub mod FigureLaws
+pub mod RowQuotients
+pub mod RowInertia

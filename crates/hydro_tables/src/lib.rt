@@ -1,0 +1,10 @@
+//! Hydrostatic tables: what a hull displaces at an upright draft, and how stiff it is there.
+#![tactic(auto)]
+
+mod divisor;
+mod figures;
+mod row;
+#[cfg(test)]
+mod tests;
+
+pub use row::{HydroRow, hydro_row};
