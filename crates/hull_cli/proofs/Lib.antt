@@ -1,2 +1,4 @@
+pub mod Counts
+pub mod Listed
 pub mod Numbers
-pub mod Endings
+pub mod Parts

@@ -1,59 +1,71 @@
 -- What a run decides by the words and the files, and what has been written at its end.
-use Rattle.std.specs.Prelude.{ℕ, ◌≡◌, ◌≤◌, ◌<◌, ◌+◌, List, [], Option, Some, None, IfSome, length, take}
-use Rattle.desk.specs.Causes.{Rose, RoseBy, AppendedIfTold}
+use Rattle.std.specs.Prelude.{ℕ, ◌≡◌, ◌≢◌, ◌≤◌, ◌<◌, ◌⊎◌, List, [], Option, Some, None, length, take}
+use Rattle.desk.specs.Causes.{Rose, AppendedIfTold}
+use Rattle.job_reader.specs.declared.fault.JobFault.TheVariants as job_fault
+use Rattle.job_reader.specs.declared.job.Job.{Job}
+use Rattle.job_reader.specs.Job.{IsJobOfFile, IsFaultOf}
 use Rattle.offset_reader.specs.Offsets.{first_fault, hull_of}
+use Rattle.hull_report.specs.declared.line.Command.{Command}
 use Rattle.hull_cli.specs.declared.status.Status.{Status}
 use Rattle.hull_cli.specs.declared.status.Status.TheVariants.{Done, Refused, ReadFault, WriteFault, NoMemory}
+use Rattle.hull_cli.specs.declared.stop.File.{File}
+use Rattle.hull_cli.specs.declared.stop.File.TheVariants as file
 use Rattle.hull_cli.specs.declared.stop.Refusal.{Refusal}
 use Rattle.hull_cli.specs.declared.stop.Refusal.TheVariants as refusal
 use Rattle.hull_cli.specs.Refusals.{refusal_text, unread_text}
-use Rattle.hull_cli.specs.Report.{IsSectionReport}
-use Rattle.hull_cli.specs.Words.{Form, section, form_of}
-
--- the most bytes of a file
-abbrev pub most_bytes : ℕ
-most_bytes = 1048576
-
--- what a shelf tells, and its counts before and after
-pub record Shelves : Type 0 where
-  pub held : List ℕ → Option (List ℕ)
-  pub faults : List ℕ → ℕ
-  pub faults_after : List ℕ → ℕ
-  pub taken : List ℕ → ℕ
-  pub taken_after : List ℕ → ℕ
-
--- these bytes were fetched under this name
-pub record Fetched (shelves : Shelves) (name bytes : List ℕ) : Type 0 where
-  pub few : length bytes ≤ most_bytes
-  pub told : IfSome (shelves.held name) (λ held. bytes ≡ held)
-
--- the fetch of this name failed
-abbrev pub Unread : Shelves → List ℕ → Type 0
-Unread shelves name = Rose (shelves.faults name) (shelves.faults_after name)
-
--- more bytes are held under this name than are read
-pub record TooLong (shelves : Shelves) (name : List ℕ) : Type 0 where
-  pub taken : RoseBy (most_bytes + 1) (shelves.taken name) (shelves.taken_after name)
-  pub told : IfSome (shelves.held name) (λ held. most_bytes < length held)
+use Rattle.hull_cli.specs.Report.{IsSectionReport, IsTablesReport}
+use Rattle.hull_cli.specs.Shelves.{Shelves, most_bytes, Fetched, Unread, TooLong}
+use Rattle.hull_cli.specs.Words.{Form, section, tables, form_of}
 
 -- the offset file of this name was read, and has no fault
 abbrev pub Read : Shelves → List ℕ → List ℕ → Type 0
 Read shelves offsets bytes = Fetched shelves offsets bytes × (first_fault bytes ≡ None)
 
--- this refusal is due to what the words ask for
-abbrev pub DueTo : Shelves → Form → Refusal → Type 0
-DueTo shelves (section offsets station draft) refusal.Usage = ⊥
-DueTo shelves (section offsets station draft) refusal.LongOffsets = TooLong shelves offsets
-DueTo shelves (section offsets station draft) (refusal.Offsets fault) = (bytes : List ℕ) × Fetched shelves offsets bytes × (first_fault bytes ≡ Some fault)
-DueTo shelves (section offsets station draft) (refusal.Station named) = (bytes : List ℕ) × Read shelves offsets bytes × (length (hull_of bytes) ≤ station) × (named ≡ station)
+-- the job file of this name was read, and this is its job
+abbrev pub JobRead : Shelves → List ℕ → Job → Type 0
+JobRead shelves name job = (bytes : List ℕ) × Fetched shelves name bytes × IsJobOfFile bytes job
 
--- a file that the words ask for could not be read
-abbrev pub UnreadBy : Shelves → Form → Type 0
-UnreadBy shelves (section offsets station draft) = Unread shelves offsets
+-- this refusal is due to the offset file of this name
+abbrev pub DueToOffsets : Shelves → List ℕ → Refusal → Type 0
+DueToOffsets shelves offsets (refusal.Long file.Offsets) = TooLong shelves offsets
+DueToOffsets shelves offsets (refusal.Offsets fault) = (bytes : List ℕ) × Fetched shelves offsets bytes × (first_fault bytes ≡ Some fault)
+DueToOffsets shelves offsets _ = ⊥
+
+-- this refusal is due to the job file of this name
+abbrev pub DueToJob : Shelves → List ℕ → Refusal → Type 0
+DueToJob shelves job (refusal.Long file.Job) = TooLong shelves job
+DueToJob shelves job (refusal.Job fault) = (bytes : List ℕ) × Fetched shelves job bytes × IsFaultOf bytes fault × (fault ≢ job_fault.Memory)
+DueToJob shelves job _ = ⊥
+
+-- this refusal is due to the station's number
+abbrev pub DueToStation : Shelves → List ℕ → ℕ → Refusal → Type 0
+DueToStation shelves offsets station (refusal.Station named) = (bytes : List ℕ) × Read shelves offsets bytes × (length (hull_of bytes) ≤ station) × (named ≡ station)
+DueToStation shelves offsets station _ = ⊥
+
+-- this refusal is due to what the words ask for; the offset file counts only where the job was read
+abbrev pub DueTo : Shelves → Form → Refusal → Type 0
+DueTo shelves (section offsets station draft) cause = DueToOffsets shelves offsets cause ⊎ DueToStation shelves offsets station cause
+DueTo shelves (tables command job offsets) cause = DueToJob shelves job cause ⊎ ((j : Job) × JobRead shelves job j × DueToOffsets shelves offsets cause)
+
+-- this file of those that the words ask for could not be read
+abbrev pub UnreadBy : Shelves → Form → File → Type 0
+UnreadBy shelves (section offsets station draft) file.Job = ⊥
+UnreadBy shelves (section offsets station draft) file.Offsets = Unread shelves offsets
+UnreadBy shelves (tables command job offsets) file.Job = Unread shelves job
+UnreadBy shelves (tables command job offsets) file.Offsets = (j : Job) × JobRead shelves job j × Unread shelves offsets
+
+-- the job and the offset file of these names were read, and this text is a right report of the command on them
+pub record ReportsTables (shelves : Shelves) (command : Command) (name offsets text : List ℕ) : Type 0 where
+  pub job : Job
+  pub job_read : JobRead shelves name job
+  pub bytes : List ℕ
+  pub read : Read shelves offsets bytes
+  pub report : IsTablesReport command (hull_of bytes) job text
 
 -- this text is a right report on what the words ask for
 abbrev pub ReportsOn : Shelves → Form → List ℕ → Type 0
 ReportsOn shelves (section offsets station draft) text = (bytes : List ℕ) × Read shelves offsets bytes × IsSectionReport (hull_of bytes) station draft text
+ReportsOn shelves (tables command job offsets) text = ReportsTables shelves command job offsets text
 
 -- this refusal is due
 abbrev pub Due : Shelves → List (List ℕ) → Refusal → Type 0
@@ -64,11 +76,15 @@ Due shelves words cause = (form : Form) × (form_of words ≡ Some form) × DueT
 abbrev pub Reports : Shelves → List (List ℕ) → List ℕ → Type 0
 Reports shelves words text = (form : Form) × (form_of words ≡ Some form) × ReportsOn shelves form text
 
+-- this file of those that the words name could not be read
+abbrev pub LeftUnread : Shelves → List (List ℕ) → File → Type 0
+LeftUnread shelves words file = (form : Form) × (form_of words ≡ Some form) × UnreadBy shelves form file
+
 -- this text is to be written, with this status
 abbrev pub Decides : Shelves → List (List ℕ) → Status → List ℕ → Type 0
 Decides shelves words Done text = Reports shelves words text
 Decides shelves words Refused text = (cause : Refusal) × Due shelves words cause × (text ≡ refusal_text cause)
-Decides shelves words ReadFault text = (form : Form) × (form_of words ≡ Some form) × UnreadBy shelves form × (text ≡ unread_text)
+Decides shelves words ReadFault text = (file : File) × LeftUnread shelves words file × (text ≡ unread_text file)
 Decides shelves words _ text = ⊥
 
 -- the text that is to be written was written whole
@@ -85,8 +101,25 @@ Answers shelves words WriteFault faults faults_after before after = Rose faults 
 Answers shelves words NoMemory faults faults_after before after = AppendedIfTold before after []
 Answers shelves words status faults faults_after before after = Wrote shelves words status before after
 
--- what the words ask for can be given: the file that they name is held, is short enough and has no fault, its fetch
--- did not fail, and it has the station
+-- a file is held and short enough, and no fetch of it failed
+pub record CanBeFetched (shelves : Shelves) (name bytes : List ℕ) : Type 0 where
+  pub held : shelves.held name ≡ Some bytes
+  pub few : length bytes ≤ most_bytes
+  pub fetched : ¬ (Unread shelves name)
+
+-- the offset file of this name can be read, and has no fault
+pub record CanBeRead (shelves : Shelves) (offsets bytes : List ℕ) : Type 0 where
+  pub file : CanBeFetched shelves offsets bytes
+  pub accepted : first_fault bytes ≡ None
+
+-- the job file of this name can be read, and has no fault
+pub record JobCanBeRead (shelves : Shelves) (name : List ℕ) : Type 0 where
+  pub bytes : List ℕ
+  pub file : CanBeFetched shelves name bytes
+  pub job : Job
+  pub accepted : IsJobOfFile bytes job
+
+-- what the words ask for can be given: the files that they name can be read, and the hull has the station
 abbrev pub CanBeGiven : Shelves → Form → Type 0
-CanBeGiven shelves (section offsets station draft) = (bytes : List ℕ) × (shelves.held offsets ≡ Some bytes) × (length bytes ≤ most_bytes)
-    × (first_fault bytes ≡ None) × (station < length (hull_of bytes)) × ¬ (Unread shelves offsets)
+CanBeGiven shelves (section offsets station draft) = (bytes : List ℕ) × CanBeRead shelves offsets bytes × (station < length (hull_of bytes))
+CanBeGiven shelves (tables command job offsets) = JobCanBeRead shelves job × ((bytes : List ℕ) × CanBeRead shelves offsets bytes)

@@ -1,31 +1,40 @@
 -- The report that each command is to write.
-use Rattle.std.specs.Prelude.{ℕ, pos, ◌≡◌, List, [], ◌∷◌, length, sum_by, slice_get, Some}
-use Rattle.exact_algebra.proofs.Span.{IsLeastSpanOf}
-use Rattle.outward_interval.specs.Printed.{IsPrinted}
-use Rattle.outward_interval.specs.declared.figure.Figure.{Figure}
+use Rattle.std.specs.Prelude.{ℕ, ℤ, pos, ◌+◌, ◌≡◌, List, [], ◌∷◌, ◌++◌, length, sum_by}
 use Rattle.hull_model.specs.declared.station.Station.{Station}
-use Rattle.hull_model.specs.Section.{section_area, section_moment}
-use Rattle.hull_model.specs.Stations.{points_at}
-use Rattle.bonjean_curves.specs.declared.curve.SectionSpans.{SectionSpans}
+use Rattle.hull_model.specs.Boundary.{sum_of}
+use Rattle.hull_model.specs.Tetrahedra.{hull_tetrahedra, six_times}
+use Rattle.job_reader.specs.declared.job.Job.{Job}
 use Rattle.hull_report.specs.Spelling.{lines_text}
+use Rattle.hull_report.specs.declared.line.Command.{Command}
 use Rattle.hull_report.specs.declared.line.Command.TheVariants as command
+use Rattle.hull_report.specs.declared.line.Line.{Line}
 use Rattle.hull_report.specs.declared.line.Line.TheVariants as line
+use Rattle.hull_cli.specs.Sections.{IsSectionLine}
+use Rattle.hull_cli.specs.Tables.{AreTableLines}
 
 -- the number of points that a hull keeps
 abbrev pub points_count : List Station → ℕ
 points_count stations = sum_by (λ s. length s.points) stations
 
--- the report on one station of a hull: its x, and the figures in m² and m³ of the least spans of its exact section
+abbrev pub hull_line : List Station → Line
+hull_line hull = line.Hull (length hull) (points_count hull)
+
+-- six times the volume of a hull's tetrahedra, in mm³
+abbrev pub six_volume : List Station → ℤ
+six_volume hull = sum_of (λ t. pos (six_times t)) (hull_tetrahedra hull)
+
+-- the report on one station of a hull
 pub record IsSectionReport (hull : List Station) (station draft : ℕ) (text : List ℕ) : Type 0 where
-  pub at : Station
-  pub there : slice_get hull station ≡ Some at
-  pub spans : SectionSpans
-  pub exact_area : IsLeastSpanOf 20 spans.area.lo spans.area.hi (section_area (points_at hull station) draft)
-  pub exact_moment : IsLeastSpanOf 20 spans.moment.lo spans.moment.hi (section_moment (points_at hull station) draft)
-  pub area : Figure
-  pub printed_area : IsPrinted 20 6 6 spans.area.lo spans.area.hi area.lo area.hi
-  pub moment : Figure
-  pub printed_moment : IsPrinted 20 9 9 spans.moment.lo spans.moment.hi moment.lo moment.hi
-  pub x : ℕ
-  pub place : pos x ≡ at.x
-  pub lines : text ≡ lines_text (line.Header command.Section ∷ line.Hull (length hull) (points_count hull) ∷ line.Section station x draft area moment ∷ line.End 4 ∷ [])
+  pub row : Line
+  pub right : IsSectionLine hull draft station row
+  pub lines : text ≡ lines_text (line.Header command.Section ∷ hull_line hull ∷ row ∷ line.End 4 ∷ [])
+
+-- the lines of a report that has a job: the header, the hull, the body, the rows of its tables, and the number of all lines
+abbrev pub whole_report : Command → List Station → List Line → List Line
+whole_report command hull rows = line.Header command ∷ hull_line hull ∷ line.Body (six_volume hull) ∷ rows ++ line.End (4 + length rows) ∷ []
+
+-- the report of a command's tables
+pub record IsTablesReport (command : Command) (hull : List Station) (job : Job) (text : List ℕ) : Type 0 where
+  pub rows : List Line
+  pub right : AreTableLines command hull job rows
+  pub lines : text ≡ lines_text (whole_report command hull rows)

@@ -1,7 +1,8 @@
 -- The code's requests, as forms of words.
 use Rattle.hull_cli.specs.declared.words.Request.{Request}
 use Rattle.hull_cli.specs.declared.words.Request.TheVariants as request
-use Rattle.hull_cli.specs.Words.{Form, section}
+use Rattle.hull_cli.specs.Words.{Form, section, tables}
 
 abbrev pub form_seen : Request → Form
 form_seen (request.Section offsets station draft) = section offsets.now station draft
+form_seen (request.Tables command job offsets) = tables command job.now offsets.now

@@ -1,14 +1,18 @@
 -- The forms of words.
-use Rattle.std.specs.Prelude.{ℕ, ◌≤◌, Bool, false, ◌==◌, ◌&&◌, not, nat_le, if◌then◌else◌, List, [], ◌∷◌, length, Option, Some, None, codes}
+use Rattle.std.specs.Prelude.{ℕ, ◌≤◌, ⊤, Bool, false, ◌==◌, ◌&&◌, not, nat_le, if◌then◌else◌, List, [], ◌∷◌, length, Option, Some, None, codes}
 use Rattle.std.specs.Char.{is_ascii_digit}
 use Rattle.std.specs.List.{list_all}
 use Rattle.std.specs.Str.{bytes_eq}
 use Rattle.std.specs.Str.Parse.{digits_value}
+use Rattle.hull_report.specs.declared.line.Command.{Command}
+use Rattle.hull_report.specs.declared.line.Command.TheVariants as command
 
 -- what the words ask for
 pub data Form : Type 0 where
   -- the offset file's name, a station counted from 0, a draft in mm
   section : List ℕ → ℕ → ℕ → Form
+  -- a command, the job file's name, the offset file's name
+  tables : Command → List ℕ → List ℕ → Form
 
 -- a file's name: a word that isn't empty and doesn't begin with a dash
 abbrev pub is_name_word : List ℕ → Bool
@@ -28,12 +32,30 @@ abbrev pub section_form : List ℕ → Option ℕ → Option ℕ → Option Form
 section_form offsets (Some station) (Some draft) = if is_name_word offsets then Some (section offsets station draft) else None
 section_form offsets _ _ = None
 
+-- the commands that are given tables of a job's drafts, by their words
+abbrev pub table_command : List ℕ → Option Command
+table_command word =
+    if bytes_eq word (codes "hydro") then Some command.Hydro else
+    if bytes_eq word (codes "bonjean") then Some command.Bonjean else None
+
+abbrev pub HasTables : Command → Type 0
+HasTables command.Hydro = ⊤
+HasTables command.Bonjean = ⊤
+HasTables _ = ⊥
+
+-- COMMAND JOB OFFSETS
+abbrev pub tables_form : Option Command → List ℕ → List ℕ → Option Form
+tables_form (Some command) job offsets = if is_name_word job && is_name_word offsets then Some (tables command job offsets) else None
+tables_form None job offsets = None
+
 -- the form of these words, if they have one
 abbrev pub form_of : List (List ℕ) → Option Form
 form_of (command ∷ offsets ∷ station ∷ draft ∷ []) =
     if bytes_eq command (codes "section") then section_form offsets (number_in 999999 station) (number_in 131071 draft) else None
+form_of (command ∷ job ∷ offsets ∷ []) = tables_form (table_command command) job offsets
 form_of words = None
 
--- a form's draft is at most 131071 mm
-abbrev pub IsDraftWithin : Form → Type 0
-IsDraftWithin (section offsets station draft) = draft ≤ 131071
+-- what every form of words keeps: a draft is at most 131071 mm, and a command with a job has tables
+abbrev pub IsServed : Form → Type 0
+IsServed (section offsets station draft) = draft ≤ 131071
+IsServed (tables command job offsets) = HasTables command

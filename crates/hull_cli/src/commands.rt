@@ -1,22 +1,22 @@
 // The top call: from words to the bytes of a report.
-ghost use Rattle.std.specs.Prelude.{◌≡◌, ◌≢◌, ◌≤◌, ◌<◌, ◌⊎◌, true, false, List, ℕ, pos, Some, None, IfOk, IfErr, map, length, take, sum_by, string_bytes};
+ghost use Rattle.std.specs.Prelude.{◌≡◌, ◌≢◌, ◌≤◌, ◌<◌, ◌⊎◌, true, false, List, ℕ, Some, None, IfOk, IfErr, map, length, take, string_bytes};
 ghost use Rattle.desk.specs.Causes.{Rose, NeverFails, NeverFailsToTake, AppendedIfTold};
-ghost use Rattle.hull_model.specs.Body.{IsWithin};
 ghost use Rattle.hull_cli.specs.Answers.{Answers, CanBeGiven, Decides, Reports, ReportsOn};
-ghost use Rattle.hull_cli.specs.Report.{IsSectionReport, points_count};
 ghost use Rattle.hull_cli.specs.Requests.{form_seen};
-ghost use Rattle.hull_cli.specs.Stops.{Stops, StopsOn, StopsSection};
-ghost use Rattle.hull_cli.specs.Words.{Form, form_of, IsDraftWithin};
+ghost use Rattle.hull_cli.specs.Shelves.{between};
+ghost use Rattle.hull_cli.specs.Stops.{Stops, StopsOn};
+ghost use Rattle.hull_cli.specs.Words as form;
+ghost use Rattle.hull_cli.specs.Words.{Form, form_of, HasTables, IsServed};
 
-use crate::reading::read_hull;
+use crate::reading::{read_hull, read_job_file};
+use crate::section::section_report;
 use crate::status::Status;
 use crate::stop::{Refusal, Stop};
+use crate::tables::tables_report;
 use crate::words::{Request, request_of};
-use bonjean_curves::section;
 use desk::{Shelf, Sink};
 use exact_fraction::Memory;
-use hull_model::{Hull, Station};
-use hull_report::{Command, Line, text_of};
+use hull_report::Command;
 use std::alloc::Global;
 
 /// Does what the words say: reads from the shelf, and writes one report, `refused` line or `fault` line to
@@ -25,15 +25,12 @@ use std::alloc::Global;
 /// `words` are the command's words without the program's name. The whole text is made before the first
 /// byte is written.
 pub fn run<S: Shelf, K: Sink>(alloc: Global, words: &[String], shelf: &mut S, out: &mut K) -> Status
-    ensures answers { Answers
-        (record { held = S.held shelf.old; faults = S.faults shelf.old; faults_after = S.faults shelf.new; taken = S.taken shelf.old; taken_after = S.taken shelf.new })
-        (map string_bytes words.now) result (K.faults out.old) (K.faults out.new) (K.taken out.old) (K.taken out.new) }
+    ensures answers { Answers (between S.held S.faults S.taken shelf.old shelf.new) (map string_bytes words.now) result
+        (K.faults out.old) (K.faults out.new) (K.taken out.old) (K.taken out.new) }
     ensures same { (n : List ℕ) → S.held shelf.new n ≡ S.held shelf.old n }
     ensures no_fetch { form_of (map string_bytes words.now) ≡ None → shelf.new ≡ shelf.old }
     ensures complete { (form : Form) → form_of (map string_bytes words.now) ≡ Some form
-        → CanBeGiven
-        (record { held = S.held shelf.old; faults = S.faults shelf.old; faults_after = S.faults shelf.new; taken = S.taken shelf.old; taken_after = S.taken shelf.new })
-        form
+        → CanBeGiven (between S.held S.faults S.taken shelf.old shelf.new) form
         → ¬ (Rose (K.faults out.old) (K.faults out.new))
         → (result ≡ Status.Done) ⊎ (result ≡ Status.NoMemory) }
 
@@ -60,9 +57,7 @@ struct Answer {
 }
 
 fn answer_of<S: Shelf>(alloc: Global, words: &[String], shelf: &mut S) -> Result<Answer, Memory>
-    ensures decides { IfOk result (λ a. Decides
-        (record { held = S.held shelf.old; faults = S.faults shelf.old; faults_after = S.faults shelf.new; taken = S.taken shelf.old; taken_after = S.taken shelf.new })
-        (map string_bytes words.now) a.status a.text.items) }
+    ensures decides { IfOk result (λ a. Decides (between S.held S.faults S.taken shelf.old shelf.new) (map string_bytes words.now) a.status a.text.items) }
     ensures same { (n : List ℕ) → S.held shelf.new n ≡ S.held shelf.old n }
     ensures no_fetch { form_of (map string_bytes words.now) ≡ None → shelf.new ≡ shelf.old }
 {
@@ -75,8 +70,8 @@ fn answer_of<S: Shelf>(alloc: Global, words: &[String], shelf: &mut S) -> Result
             text: refusal.text(alloc)?,
             status: Status::Refused,
         }),
-        Err(Stop::OffsetsUnread) => Ok(Answer {
-            text: Vec::from_slice(alloc, b"fault read offsets\n")?,
+        Err(Stop::Unread(file)) => Ok(Answer {
+            text: file.unread(alloc)?,
             status: Status::ReadFault,
         }),
         Err(Stop::NoMemory) => Err(Memory),
@@ -84,12 +79,8 @@ fn answer_of<S: Shelf>(alloc: Global, words: &[String], shelf: &mut S) -> Result
 }
 
 fn report_of<S: Shelf>(alloc: Global, words: &[String], shelf: &mut S) -> Result<Vec<u8>, Stop>
-    ensures reports { IfOk result (λ text. Reports
-        (record { held = S.held shelf.old; faults = S.faults shelf.old; faults_after = S.faults shelf.new; taken = S.taken shelf.old; taken_after = S.taken shelf.new })
-        (map string_bytes words.now) text.items) }
-    ensures stops { IfErr result (λ stop. Stops
-        (record { held = S.held shelf.old; faults = S.faults shelf.old; faults_after = S.faults shelf.new; taken = S.taken shelf.old; taken_after = S.taken shelf.new })
-        (map string_bytes words.now) stop) }
+    ensures reports { IfOk result (λ text. Reports (between S.held S.faults S.taken shelf.old shelf.new) (map string_bytes words.now) text.items) }
+    ensures stops { IfErr result (Stops (between S.held S.faults S.taken shelf.old shelf.new) (map string_bytes words.now)) }
     ensures same { (n : List ℕ) → S.held shelf.new n ≡ S.held shelf.old n }
     ensures no_fetch { form_of (map string_bytes words.now) ≡ None → shelf.new ≡ shelf.old }
 {
@@ -100,13 +91,9 @@ fn report_of<S: Shelf>(alloc: Global, words: &[String], shelf: &mut S) -> Result
 }
 
 fn report_on<S: Shelf>(alloc: Global, request: Request<'_>, shelf: &mut S) -> Result<Vec<u8>, Stop>
-    requires { IsDraftWithin (form_seen request) }
-    ensures reports { IfOk result (λ text. ReportsOn
-        (record { held = S.held shelf.old; faults = S.faults shelf.old; faults_after = S.faults shelf.new; taken = S.taken shelf.old; taken_after = S.taken shelf.new })
-        (form_seen request.entry) text.items) }
-    ensures stops { IfErr result (StopsOn
-        (record { held = S.held shelf.old; faults = S.faults shelf.old; faults_after = S.faults shelf.new; taken = S.taken shelf.old; taken_after = S.taken shelf.new })
-        (form_seen request.entry)) }
+    requires { IsServed (form_seen request) }
+    ensures reports { IfOk result (λ text. ReportsOn (between S.held S.faults S.taken shelf.old shelf.new) (form_seen request.entry) text.items) }
+    ensures stops { IfErr result (StopsOn (between S.held S.faults S.taken shelf.old shelf.new) (form_seen request.entry)) }
     ensures same { (n : List ℕ) → S.held shelf.new n ≡ S.held shelf.old n }
 {
     match request {
@@ -114,68 +101,46 @@ fn report_on<S: Shelf>(alloc: Global, request: Request<'_>, shelf: &mut S) -> Re
             offsets,
             station,
             draft,
-        } => {
-            let hull = read_hull(alloc, shelf, offsets)?;
-            section_report(alloc, &hull, station, draft)
-        }
+        } => section_on(alloc, shelf, offsets, station, draft),
+        Request::Tables {
+            command,
+            job,
+            offsets,
+        } => tables_on(alloc, shelf, command, job, offsets),
     }
 }
 
-fn section_report(alloc: Global, hull: &Hull, station: u32, draft: u32) -> Result<Vec<u8>, Stop>
+fn section_on<S: Shelf>(
+    alloc: Global,
+    shelf: &mut S,
+    offsets: &str,
+    station: u32,
+    draft: u32,
+) -> Result<Vec<u8>, Stop>
     requires { draft ≤ 131071 }
-    ensures reports { IfOk result (λ text. IsSectionReport hull.now station draft text.items) }
-    ensures stops { IfErr result (StopsSection hull.now station) }
+    ensures reports { IfOk result (λ text. ReportsOn (between S.held S.faults S.taken shelf.old shelf.new) (form.section offsets.now station draft) text.items) }
+    ensures stops { IfErr result (StopsOn (between S.held S.faults S.taken shelf.old shelf.new) (form.section offsets.now station draft)) }
+    ensures same { (n : List ℕ) → S.held shelf.new n ≡ S.held shelf.old n }
 {
-    let Some(at) = hull.stations().get(station as usize) else {
-        return Err(Stop::Refused(Refusal::Station(station)));
-    };
-    let spans = section(hull, station as usize, draft);
-    let lines = [
-        Line::Header {
-            command: Command::Section,
-        },
-        Line::Hull {
-            stations: stations_of(hull),
-            points: points_of(hull),
-        },
-        Line::Section {
-            station,
-            x: place_of(at),
-            draft,
-            area: spans.area.figure(6, 6),
-            moment: spans.moment.figure(9, 9),
-        },
-        Line::End { lines: 4 },
-    ];
-    Ok(text_of(alloc, &lines)?)
+    let hull = read_hull(alloc, shelf, offsets)?;
+    section_report(alloc, &hull, station, draft)
 }
 
-// The x of a station, in mm.
-fn place_of(station: &Station) -> u32
-    requires { IsWithin (pos 524287) station.now.x }
-    ensures { pos result ≡ station.now.x }
+fn tables_on<S: Shelf>(
+    alloc: Global,
+    shelf: &mut S,
+    command: Command,
+    job: &str,
+    offsets: &str,
+) -> Result<Vec<u8>, Stop>
+    requires { HasTables command }
+    ensures reports { IfOk result (λ text. ReportsOn (between S.held S.faults S.taken shelf.old shelf.new) (form.tables command job.now offsets.now) text.items) }
+    ensures stops { IfErr result (StopsOn (between S.held S.faults S.taken shelf.old shelf.new) (form.tables command job.now offsets.now)) }
+    ensures same { (n : List ℕ) → S.held shelf.new n ≡ S.held shelf.old n }
 {
-    station.x as u32
-}
-
-// The number of stations of a hull.
-fn stations_of(hull: &Hull) -> u32
-    ensures { result ≡ length hull.now }
-{
-    hull.stations().len() as u32
-}
-
-// The number of points that a hull keeps.
-fn points_of(hull: &Hull) -> u32
-    ensures { result ≡ points_count hull.now }
-{
-    let mut points = 0;
-    let mut rest = hull.stations();
-    while let [station, after @ ..] = rest {
-        points += station.points.as_slice().len() as u32;
-        rest = after;
-    }
-    points
+    let job = read_job_file(alloc, shelf, job)?;
+    let hull = read_hull(alloc, shelf, offsets)?;
+    Ok(tables_report(alloc, command, &hull, &job)?)
 }
 
 // Puts what isn't taken yet until all is: false where a put failed.

@@ -2,10 +2,15 @@
 #![tactic(auto)]
 
 mod commands;
+mod faults;
+mod hull_line;
+mod hydro;
 mod reading;
 mod refused;
+mod section;
 mod status;
 mod stop;
+mod tables;
 mod words;
 
 pub use commands::run;

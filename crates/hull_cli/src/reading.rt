@@ -1,36 +1,68 @@
 // Input files.
 ghost use Rattle.std.specs.Prelude.{◌≡◌, List, ℕ, IfOk, IfErr};
+ghost use Rattle.desk.specs.Causes.{NoneFell};
 ghost use Rattle.offset_reader.specs.Offsets as offsets_file;
-ghost use Rattle.hull_cli.specs.Answers.{Read};
-ghost use Rattle.hull_cli.specs.Stops.{StopsReading};
+ghost use Rattle.hull_cli.specs.Answers.{JobRead, Read};
+ghost use Rattle.hull_cli.specs.Shelves.{Fetched, between};
+ghost use Rattle.hull_cli.specs.Stops.{StopsFetching, StopsReading, StopsReadingJob};
 
-use crate::stop::{Refusal, Stop};
+use crate::stop::{File, Refusal, Stop};
 use desk::{Shelf, ShelfFault};
 use hull_model::Hull;
+use job_reader::{Job, JobFault, read_job};
 use offset_reader::{OffsetFault, read_offsets};
 use std::alloc::Global;
 
 /// The most bytes of an input file.
 const MOST_BYTES: usize = 1_048_576;
 
+/// The job of a job file.
+pub(crate) fn read_job_file<S: Shelf>(alloc: Global, shelf: &mut S, name: &str) -> Result<Job, Stop>
+    ensures read { IfOk result (JobRead (between S.held S.faults S.taken shelf.old shelf.new) name.now) }
+    ensures stop { IfErr result (StopsReadingJob (between S.held S.faults S.taken shelf.old shelf.new) name.now) }
+    ensures same { (n : List ℕ) → S.held shelf.new n ≡ S.held shelf.old n }
+    ensures faults_later { NoneFell (S.faults shelf.old) (S.faults shelf.new) }
+    ensures taken_later { NoneFell (S.taken shelf.old) (S.taken shelf.new) }
+{
+    let bytes = fetched(alloc, shelf, name, File::Job)?;
+    match read_job(alloc, &bytes) {
+        Ok(job) => Ok(job),
+        Err(fault) => match fault {
+            JobFault::Memory => Err(Stop::NoMemory),
+            _ => Err(Stop::Refused(Refusal::Job(fault))),
+        },
+    }
+}
+
 /// The hull of an offset file.
 pub(crate) fn read_hull<S: Shelf>(alloc: Global, shelf: &mut S, offsets: &str) -> Result<Hull, Stop>
     ensures read { IfOk result (λ hull. (bytes : List ℕ)
-        × Read (record { held = S.held shelf.old; faults = S.faults shelf.old; faults_after = S.faults shelf.new; taken = S.taken shelf.old; taken_after = S.taken shelf.new }) offsets.now bytes
+        × Read (between S.held S.faults S.taken shelf.old shelf.new) offsets.now bytes
         × (hull ≡ offsets_file.hull_of bytes)) }
-    ensures stop { IfErr result (λ stop.
-        StopsReading (record { held = S.held shelf.old; faults = S.faults shelf.old; faults_after = S.faults shelf.new; taken = S.taken shelf.old; taken_after = S.taken shelf.new }) offsets.now stop) }
+    ensures stop { IfErr result (StopsReading (between S.held S.faults S.taken shelf.old shelf.new) offsets.now) }
     ensures same { (n : List ℕ) → S.held shelf.new n ≡ S.held shelf.old n }
+    ensures faults_later { NoneFell (S.faults shelf.old) (S.faults shelf.new) }
+    ensures taken_later { NoneFell (S.taken shelf.old) (S.taken shelf.new) }
 {
-    let bytes = match shelf.fetch(alloc, offsets, MOST_BYTES) {
-        Ok(bytes) => bytes,
-        Err(ShelfFault::Failed) => return Err(Stop::OffsetsUnread),
-        Err(ShelfFault::TooLong) => return Err(Stop::Refused(Refusal::LongOffsets)),
-        Err(ShelfFault::Memory) => return Err(Stop::NoMemory),
-    };
+    let bytes = fetched(alloc, shelf, offsets, File::Offsets)?;
     match read_offsets(alloc, &bytes) {
         Ok(hull) => Ok(hull),
         Err(OffsetFault::Memory) => Err(Stop::NoMemory),
         Err(fault) => Err(Stop::Refused(Refusal::Offsets(fault))),
+    }
+}
+
+fn fetched<S: Shelf>(alloc: Global, shelf: &mut S, name: &str, file: File) -> Result<Vec<u8>, Stop>
+    ensures bytes { IfOk result (λ bytes. Fetched (between S.held S.faults S.taken shelf.old shelf.new) name.now bytes.items) }
+    ensures stop { IfErr result (StopsFetching (between S.held S.faults S.taken shelf.old shelf.new) name.now file) }
+    ensures same { (n : List ℕ) → S.held shelf.new n ≡ S.held shelf.old n }
+    ensures faults_later { NoneFell (S.faults shelf.old) (S.faults shelf.new) }
+    ensures taken_later { NoneFell (S.taken shelf.old) (S.taken shelf.new) }
+{
+    match shelf.fetch(alloc, name, MOST_BYTES) {
+        Ok(bytes) => Ok(bytes),
+        Err(ShelfFault::Failed) => Err(Stop::Unread(file)),
+        Err(ShelfFault::TooLong) => Err(Stop::Refused(Refusal::Long(file))),
+        Err(ShelfFault::Memory) => Err(Stop::NoMemory),
     }
 }

@@ -1,18 +1,26 @@
 // Why there is no report.
 ghost use Rattle.std.specs.Prelude.{◌≡◌, ◌++◌, IfOk, OnOk, string_bytes};
-ghost use Rattle.hull_cli.specs.Refusals.{place_text, field_text, fault_text};
 
-use crate::refused::{push_number, push_word};
+use crate::faults::{push_job_fault, push_offset_fault};
+use crate::refused::{push_place, push_word};
 use exact_fraction::Memory;
+use job_reader::JobFault;
 use offset_reader::OffsetFault;
 use std::alloc::Global;
+
+/// The files that a run reads.
+#[derive(Clone, Copy, Debug)]
+pub(crate) enum File {
+    Job,
+    Offsets,
+}
 
 /// Why a run writes no report.
 #[derive(Clone, Copy, Debug)]
 pub(crate) enum Stop {
     Refused(Refusal),
-    /// The offset file's fetch failed.
-    OffsetsUnread,
+    /// The file's fetch failed.
+    Unread(File),
     NoMemory,
 }
 
@@ -21,8 +29,10 @@ pub(crate) enum Stop {
 pub(crate) enum Refusal {
     /// The words are in no form.
     Usage,
-    /// The offset file has too many bytes.
-    LongOffsets,
+    /// The file has too many bytes.
+    Long(File),
+    /// The job file has a fault.
+    Job(JobFault),
     /// The offset file has a fault.
     Offsets(OffsetFault),
     /// The hull has no station of this number.
@@ -36,6 +46,29 @@ impl From<Memory> for Stop {
 
     fn from(_: Memory) -> Stop {
         Stop::NoMemory
+    }
+}
+
+impl File {
+    ghost use Rattle.hull_cli.specs.Refusals.{file_word, unread_text};
+
+    fn word(&self) -> &'static str
+        ensures { result.now ≡ file_word self.now }
+    {
+        match self {
+            File::Job => "job",
+            File::Offsets => "offsets",
+        }
+    }
+
+    /// The line that is written where the file could not be read.
+    pub(crate) fn unread(&self, alloc: Global) -> Result<Vec<u8>, Memory>
+        ensures { IfOk result (λ text. text.items ≡ unread_text self.now) }
+    {
+        let mut text = String::from_str(alloc, "fault read")?;
+        push_word(&mut text, self.word())?;
+        text.push_str("\n")?;
+        Ok(text.into_bytes())
     }
 }
 
@@ -57,46 +90,19 @@ impl Refusal {
     {
         match self {
             Refusal::Usage => push_word(text, "usage"),
-            Refusal::LongOffsets => push_word(text, "long offsets"),
+            Refusal::Long(file) => {
+                push_word(text, "long")?;
+                push_word(text, file.word())
+            }
+            Refusal::Job(fault) => {
+                push_word(text, "job")?;
+                push_job_fault(text, fault)
+            }
             Refusal::Offsets(fault) => {
                 push_word(text, "offsets")?;
-                push_fault(text, fault)
+                push_offset_fault(text, fault)
             }
             Refusal::Station(station) => push_place(text, "station", *station),
         }
     }
-}
-
-// Appends the fault's word and its numbers.
-fn push_fault(text: &mut String, fault: &OffsetFault) -> Result<(), Memory>
-    ensures { OnOk result (string_bytes text.new ≡ string_bytes text.old ++ fault_text fault.now) }
-{
-    match *fault {
-        OffsetFault::Columns { row } => push_place(text, "columns", row),
-        OffsetFault::Number { row, column } => push_field(text, "number", row, column),
-        OffsetFault::Negative { row, column } => push_field(text, "negative", row, column),
-        OffsetFault::Range { row, column } => push_field(text, "range", row, column),
-        OffsetFault::Backwards { row } => push_place(text, "backwards", row),
-        OffsetFault::Height { row } => push_place(text, "height", row),
-        OffsetFault::FewStations { stations } => push_place(text, "fewstations", stations),
-        OffsetFault::TooManyStations { row } => push_place(text, "toomanystations", row),
-        OffsetFault::FewPoints { row } => push_place(text, "fewpoints", row),
-        OffsetFault::TooManyPoints { row } => push_place(text, "toomanypoints", row),
-        OffsetFault::NoVolume => push_word(text, "novolume"),
-        OffsetFault::Memory => Err(Memory),
-    }
-}
-
-fn push_place(text: &mut String, word: &str, row: u32) -> Result<(), Memory>
-    ensures { OnOk result (string_bytes text.new ≡ string_bytes text.old ++ place_text word.now row) }
-{
-    push_word(text, word)?;
-    push_number(text, row)
-}
-
-fn push_field(text: &mut String, word: &str, row: u32, column: u32) -> Result<(), Memory>
-    ensures { OnOk result (string_bytes text.new ≡ string_bytes text.old ++ field_text word.now row column) }
-{
-    push_place(text, word, row)?;
-    push_number(text, column)
 }

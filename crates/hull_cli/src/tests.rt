@@ -1,4 +1,7 @@
+mod bonjean;
 mod cargo;
+mod hydro;
+mod jobs;
 mod refusals;
 mod words;
 
@@ -41,14 +44,33 @@ fn files_of(alloc: Global, name: &str, bytes: &[u8]) -> Result<Vec<(String, Vec<
     Ok(files)
 }
 
-// What a run answers and writes, with one file on the shelf and a sink that takes 25 bytes at once.
-fn outcome_of(alloc: Global, words: &str, name: &str, bytes: &[u8]) -> Result<Outcome, Fail> {
+// What a run answers and writes, with a sink that takes 25 bytes at once.
+fn outcome_at(alloc: Global, words: &str, shelf: &mut MemShelf) -> Result<Outcome, Fail> {
     let words = words_of(alloc, words)?;
-    let mut shelf = MemShelf::of(files_of(alloc, name, bytes)?, Vec::new(alloc));
     let mut out = MemSink::new(alloc, 4096, 25, Vec::new(alloc))?;
-    let status = run(alloc, &words, &mut shelf, &mut out);
+    let status = run(alloc, &words, shelf, &mut out);
     let text = String::from_str(alloc, str::from_utf8(out.taken())?)?;
     Ok(Outcome { status, text })
+}
+
+// The same with one file on the shelf.
+fn outcome_of(alloc: Global, words: &str, name: &str, bytes: &[u8]) -> Result<Outcome, Fail> {
+    let mut shelf = MemShelf::of(files_of(alloc, name, bytes)?, Vec::new(alloc));
+    outcome_at(alloc, words, &mut shelf)
+}
+
+// The same with a job and a hull on the shelf, for a command with its two files; the fetches of these numbers fail.
+fn outcome_of_job(
+    alloc: Global,
+    command: &str,
+    job: &[u8],
+    hull: &[u8],
+    fails: Vec<u64>,
+) -> Result<Outcome, Fail> {
+    let mut files = files_of(alloc, "job.toml", job)?;
+    files.push((String::from_str(alloc, "hull.csv")?, hull.to_vec(alloc)?))?;
+    let words = format!(in alloc; "{command}|job.toml|hull.csv")?;
+    outcome_at(alloc, words.as_str(), &mut MemShelf::of(files, fails))
 }
 
 #[test]

@@ -3,7 +3,10 @@ ghost use Rattle.std.specs.Prelude.{◌≡◌, ◌≤◌, IfSome, map, option_ma
 ghost use Rattle.std.specs.Char.{is_ascii_digit};
 ghost use Rattle.std.specs.List.{list_all};
 ghost use Rattle.hull_cli.specs.Requests.{form_seen};
-ghost use Rattle.hull_cli.specs.Words.{form_of, IsDraftWithin, section_form, is_name_word, is_number_word, number_in};
+ghost use Rattle.hull_cli.specs.Words as spec;
+ghost use Rattle.hull_cli.specs.Words.{form_of, IsServed, HasTables, section_form, tables_form, is_name_word, is_number_word, number_in};
+
+use hull_report::Command;
 
 /// The most digits of a station's number and of a draft.
 const MOST_DIGITS: usize = 6;
@@ -23,16 +26,25 @@ pub(crate) enum Request<'a> {
         station: u32,
         draft: u32,
     },
+    /// `COMMAND JOB OFFSETS`: tables over the drafts of the job.
+    Tables {
+        command: Command,
+        job: &'a str,
+        offsets: &'a str,
+    },
 }
 
 /// The request that the words make, or None where they are in no form.
 pub(crate) fn request_of(words: &[String]) -> Option<Request<'_>>
     ensures form { option_map form_seen result ≡ form_of (map string_bytes words.now) }
-    ensures draft { IfSome result (λ request. IsDraftWithin (form_seen request)) }
+    ensures served { IfSome result (λ request. IsServed (form_seen request)) }
 {
     match words {
         [command, offsets, station, draft] if command.as_str() == "section" => {
             section_request(offsets.as_str(), station.as_str(), draft.as_str())
+        }
+        [command, job, offsets] => {
+            tables_request(command.as_str(), job.as_str(), offsets.as_str())
         }
         _ => None,
     }
@@ -40,7 +52,7 @@ pub(crate) fn request_of(words: &[String]) -> Option<Request<'_>>
 
 fn section_request<'a>(offsets: &'a str, station: &str, draft: &str) -> Option<Request<'a>>
     ensures form { option_map form_seen result ≡ section_form offsets.now (number_in 999999 station.now) (number_in 131071 draft.now) }
-    ensures draft { IfSome result (λ request. IsDraftWithin (form_seen request)) }
+    ensures served { IfSome result (λ request. IsServed (form_seen request)) }
 {
     let station = number_of(station, MOST_STATION)?;
     let draft = number_of(draft, MOST_DRAFT)?;
@@ -52,6 +64,33 @@ fn section_request<'a>(offsets: &'a str, station: &str, draft: &str) -> Option<R
         station,
         draft,
     })
+}
+
+fn tables_request<'a>(command: &str, job: &'a str, offsets: &'a str) -> Option<Request<'a>>
+    ensures form { option_map form_seen result ≡ tables_form (spec.table_command command.now) job.now offsets.now }
+    ensures served { IfSome result (λ request. IsServed (form_seen request)) }
+{
+    let command = table_command(command)?;
+    if !is_name(job) || !is_name(offsets) {
+        return None;
+    }
+    Some(Request::Tables {
+        command,
+        job,
+        offsets,
+    })
+}
+
+// The command of this word, where it is given tables of a job's drafts.
+fn table_command(word: &str) -> Option<Command>
+    ensures command { result ≡ spec.table_command word.now }
+    ensures served { IfSome result HasTables }
+{
+    match word {
+        "hydro" => Some(Command::Hydro),
+        "bonjean" => Some(Command::Bonjean),
+        _ => None,
+    }
 }
 
 // A file's name: a word that isn't empty and doesn't begin with a dash.

@@ -4,7 +4,7 @@ use crate::Status;
 use std::test::Fail;
 
 // The cargo ship's offset file.
-const OFFSETS: &str = "\
+pub(super) const OFFSETS: &str = "\
 0,0,0\n\
 0,0,1000\n\
 0,0,3000\n\

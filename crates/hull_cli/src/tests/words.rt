@@ -57,6 +57,25 @@ const LISTS: &str = "\
 3=refused usage=1|5000\n\
 0=hullcert 1 section=section|barge.csv|00|00\n\
 0=hullcert 1 section=section|barge.csv|1|131070\n\
+4=fault read job=hydro|job.toml|barge.csv\n\
+4=fault read job=bonjean|job.toml|absent.csv\n\
+3=refused job text=hydro|barge.csv|barge.csv\n\
+3=refused job text=bonjean|barge.csv|absent.csv\n\
+3=refused usage=hydro\n\
+3=refused usage=bonjean\n\
+3=refused usage=hydro|barge.csv\n\
+3=refused usage=hydro|barge.csv|barge.csv|barge.csv\n\
+3=refused usage=hydro|--help|x\n\
+3=refused usage=hydro|x|--help\n\
+3=refused usage=hydro||barge.csv\n\
+3=refused usage=hydro|barge.csv|\n\
+3=refused usage=bonjean|-|barge.csv\n\
+3=refused usage=Hydro|barge.csv|barge.csv\n\
+3=refused usage=hydr|barge.csv|barge.csv\n\
+3=refused usage=bonjeans|barge.csv|barge.csv\n\
+3=refused usage=cross|barge.csv|barge.csv\n\
+3=refused usage=section|barge.csv|barge.csv\n\
+3=refused usage=--help|barge.csv|barge.csv\n\
 ";
 
 #[test]

@@ -1,0 +1,12 @@
+use Rattle.std.proofs.Common.{refl}
+use Rattle.hull_cli.proofs.hydro.hydro_line.Goals as goal
+
+pub returns-clause-line : goal.returns-clause-line
+returns-clause-line c = λ hull is faces. record {
+  row = c.hydro_row-row.result;
+  holds = c.hydro_row-row.ensures.holds hull is faces;
+  absent = c.hydro_row-row.ensures.absent;
+  figures = c.figures_of.result;
+  printed = c.figures_of.ensures.printed;
+  fields = refl;
+}

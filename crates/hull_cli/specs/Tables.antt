@@ -1,0 +1,79 @@
+-- The lines of tables over a job's drafts.
+use Rattle.std.specs.Prelude.{ℕ, ◌≡◌, ⊤, List, [], ◌∷◌, ◌++◌, Option, Some, None}
+use Rattle.outward_interval.specs.Printed.{IsPrinted}
+use Rattle.outward_interval.specs.declared.figure.Figure.{Figure}
+use Rattle.outward_interval.specs.declared.span.Span.{Span}
+use Rattle.hull_model.specs.declared.station.Station.{Station}
+use Rattle.hull_model.specs.declared.water.Water.{Water}
+use Rattle.hydro_tables.specs.declared.row.HydroRow.{HydroRow}
+use Rattle.hydro_tables.specs.Figures.{integrals_of}
+use Rattle.hydro_tables.specs.Row.{HoldsFigures, IsAbsentExactly}
+use Rattle.job_reader.specs.declared.job.Job.{Job}
+use Rattle.hull_report.specs.declared.line.Command.{Command}
+use Rattle.hull_report.specs.declared.line.Command.TheVariants as command
+use Rattle.hull_report.specs.declared.line.Line.{Line}
+use Rattle.hull_report.specs.declared.line.Line.TheVariants as line
+use Rattle.hull_cli.specs.Sections.{AreSectionLines}
+
+-- two lists of one length, of which what stands in the same place is so related
+abbrev pub Pairwise : {A B : Type 0} → (A → B → Type 0) → List A → List B → Type 0
+Pairwise R [] [] = ⊤
+Pairwise R [] (b ∷ bs) = ⊥
+Pairwise R (a ∷ others) [] = ⊥
+Pairwise R (a ∷ others) (b ∷ bs) = R a b × Pairwise R others bs
+
+-- a span that may be absent, and by which power of ten its unit is smaller than that of its figure
+pub record Column : Type 0 where
+  pub shift : ℕ
+  pub span : Option (Span 20)
+
+-- the columns of a row, in the order of its line
+abbrev pub columns_of : HydroRow → List Column
+columns_of row =
+    record { shift = 9; span = Some row.volume }
+    ∷ record { shift = 0; span = Some row.displacement }
+    ∷ record { shift = 3; span = row.lcb }
+    ∷ record { shift = 3; span = row.kb }
+    ∷ record { shift = 6; span = Some row.area }
+    ∷ record { shift = 3; span = row.lcf }
+    ∷ record { shift = 3; span = row.bmt }
+    ∷ record { shift = 3; span = row.bml }
+    ∷ record { shift = 3; span = row.kmt }
+    ∷ record { shift = 0; span = Some row.tpc }
+    ∷ record { shift = 0; span = row.mct }
+    ∷ []
+
+-- the figure is printed of the span, and is absent where the span is
+abbrev pub IsFigureOf : ℕ → Option (Span 20) → Option Figure → Type 0
+IsFigureOf shift None None = ⊤
+IsFigureOf shift None (Some f) = ⊥
+IsFigureOf shift (Some s) None = ⊥
+IsFigureOf shift (Some s) (Some f) = IsPrinted 20 shift 6 s.lo s.hi f.lo f.hi
+
+abbrev pub IsColumnFigure : Column → Option Figure → Type 0
+IsColumnFigure column figure = IsFigureOf column.shift column.span figure
+
+-- the line of a hull in water at a draft: the figures of a row whose spans hold the exact figures of the hull's tetrahedra
+pub record IsHydroLine (hull : List Station) (water : Water) (draft : ℕ) (l : Line) : Type 0 where
+  pub row : HydroRow
+  pub holds : HoldsFigures (integrals_of hull draft) water row
+  pub absent : IsAbsentExactly row
+  pub figures : List (Option Figure)
+  pub printed : Pairwise IsColumnFigure (columns_of row) figures
+  pub fields : l ≡ line.Hydro draft figures
+
+-- one line for each draft
+abbrev pub AreHydroLines : List Station → Water → List ℕ → List Line → Type 0
+AreHydroLines hull water drafts lines = Pairwise (IsHydroLine hull water) drafts lines
+
+-- for each draft one line for each station, draft after draft
+abbrev pub AreBonjeanLines : List Station → List ℕ → List Line → Type 0
+AreBonjeanLines hull [] lines = lines ≡ []
+AreBonjeanLines hull (draft ∷ drafts) lines =
+    (first : List Line) × (later : List Line) × (lines ≡ first ++ later) × AreSectionLines hull draft first × AreBonjeanLines hull drafts later
+
+-- the lines of a command's tables
+abbrev pub AreTableLines : Command → List Station → Job → List Line → Type 0
+AreTableLines command.Hydro hull job lines = AreHydroLines hull job.water job.drafts lines
+AreTableLines command.Bonjean hull job lines = AreBonjeanLines hull job.drafts lines
+AreTableLines _ hull job lines = ⊥

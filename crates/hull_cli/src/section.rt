@@ -1,0 +1,78 @@
+// Sections of a hull.
+ghost use Rattle.std.specs.Prelude.{◌≡◌, ◌≤◌, ◌<◌, pos, IfOk, IfErr, length};
+ghost use Rattle.hull_model.specs.Body.{IsWithin};
+ghost use Rattle.hull_report.specs.Spelling.{IsLine, AreLines};
+ghost use Rattle.hull_cli.specs.Report.{IsSectionReport};
+ghost use Rattle.hull_cli.specs.Sections.{IsSectionLine, AreSectionLines};
+ghost use Rattle.hull_cli.specs.Stops.{StopsSection};
+
+use crate::hull_line::hull_line;
+use crate::stop::{Refusal, Stop};
+use bonjean_curves::section;
+use exact_fraction::Memory;
+use hull_model::{Hull, Station};
+use hull_report::{Command, Line, text_of};
+use std::alloc::Global;
+
+/// The report on one station.
+pub(crate) fn section_report(
+    alloc: Global,
+    hull: &Hull,
+    station: u32,
+    draft: u32,
+) -> Result<Vec<u8>, Stop>
+    requires { draft ≤ 131071 }
+    ensures reports { IfOk result (λ text. IsSectionReport hull.now station draft text.items) }
+    ensures stops { IfErr result (StopsSection hull.now station) }
+{
+    if station as usize >= hull.stations().len() {
+        return Err(Stop::Refused(Refusal::Station(station)));
+    }
+    let lines = [
+        Line::Header {
+            command: Command::Section,
+        },
+        hull_line(hull),
+        section_line(hull, station as usize, draft),
+        Line::End { lines: 4 },
+    ];
+    Ok(text_of(alloc, &lines)?)
+}
+
+/// The lines of all stations at a draft.
+pub(crate) fn section_lines(alloc: Global, hull: &Hull, draft: u32) -> Result<Vec<Line>, Memory>
+    requires { draft ≤ 131071 }
+    ensures lines { IfOk result (λ lines. AreSectionLines hull.now draft lines.items) }
+    ensures grammar { IfOk result (λ lines. AreLines lines.items) }
+{
+    let mut lines = Vec::new(alloc);
+    for station in 0..hull.stations().len() {
+        lines.push(section_line(hull, station, draft))?;
+    }
+    Ok(lines)
+}
+
+fn section_line(hull: &Hull, station: usize, draft: u32) -> Line
+    requires there { station < length hull.now }
+    requires draft { draft ≤ 131071 }
+    ensures line { IsSectionLine hull.now draft station result }
+    ensures grammar { IsLine result }
+{
+    let at = &hull.stations()[station];
+    let spans = section(hull, station, draft);
+    Line::Section {
+        station: station as u32,
+        x: place_of(at),
+        draft,
+        area: spans.area.figure(6, 6),
+        moment: spans.moment.figure(9, 9),
+    }
+}
+
+// The x of a station, in mm.
+fn place_of(station: &Station) -> u32
+    requires { IsWithin (pos 524287) station.now.x }
+    ensures { pos result ≡ station.now.x }
+{
+    station.x as u32
+}

@@ -1,0 +1,97 @@
+// Tables over the drafts of a job.
+ghost use Rattle.std.specs.Prelude.{◌≡◌, ◌≤◌, ◌+◌, ◌*◌, true, [], ◌∷◌, ◌++◌, IfOk, length};
+ghost use Rattle.std.specs.List.{list_all};
+ghost use Rattle.hull_model.specs.Body.{IsHull};
+ghost use Rattle.hull_polyhedron.specs.FacesOf.{AreFacesOf};
+ghost use Rattle.job_reader.specs.Limits.{is_from};
+ghost use Rattle.hull_report.specs.Spelling.{AreLines};
+ghost use Rattle.hull_report.specs.declared.line.Line.TheVariants as line;
+ghost use Rattle.hull_cli.specs.Report.{IsTablesReport};
+ghost use Rattle.hull_cli.specs.Tables.{AreBonjeanLines, AreTableLines};
+ghost use Rattle.hull_cli.specs.Words.{HasTables};
+
+use crate::hull_line::hull_line;
+use crate::hydro::hydro_lines;
+use crate::section::section_lines;
+use exact_fraction::Memory;
+use hull_model::Hull;
+use hull_polyhedron::{Faces, faces_of, six_volume};
+use hull_report::{Command, Line, text_of};
+use job_reader::Job;
+use std::alloc::Global;
+
+/// The report of a command's tables.
+pub(crate) fn tables_report(
+    alloc: Global,
+    command: Command,
+    hull: &Hull,
+    job: &Job,
+) -> Result<Vec<u8>, Memory>
+    requires { HasTables command }
+    ensures { IfOk result (λ text. IsTablesReport command hull.now job.now text.items) }
+{
+    let faces = faces_of(alloc, hull)?;
+    let first = [
+        Line::Header { command },
+        hull_line(hull),
+        Line::Body {
+            six: six_volume(&faces),
+        },
+    ];
+    let rows = table_lines(alloc, command, hull, &faces, job)?;
+    let lines = report_lines(alloc, &first, &rows)?;
+    text_of(alloc, &lines)
+}
+
+fn table_lines(
+    alloc: Global,
+    command: Command,
+    hull: &Hull,
+    faces: &Faces,
+    job: &Job,
+) -> Result<Vec<Line>, Memory>
+    requires command { HasTables command }
+    requires hull { IsHull hull.now }
+    requires faces { AreFacesOf hull.now faces.now }
+    ensures lines { IfOk result (λ lines. AreTableLines command hull.now job.now lines.items) }
+    ensures few { IfOk result (λ lines. length lines.items ≤ 4096) }
+    ensures grammar { IfOk result (λ lines. AreLines lines.items) }
+{
+    let drafts = job.drafts.as_slice();
+    match command {
+        Command::Hydro => hydro_lines(alloc, faces, &job.water, drafts),
+        Command::Bonjean => bonjean_lines(alloc, hull, drafts),
+        _ => unreachable!(),
+    }
+}
+
+fn bonjean_lines(alloc: Global, hull: &Hull, drafts: &[u32]) -> Result<Vec<Line>, Memory>
+    requires { list_all (is_from 0 131071) drafts.now ≡ true }
+    ensures lines { IfOk result (λ lines. AreBonjeanLines hull.now drafts.now lines.items) }
+    ensures count { IfOk result (λ lines. length lines.items ≡ length drafts.now * length hull.now) }
+    ensures grammar { IfOk result (λ lines. AreLines lines.items) }
+{
+    let mut lines = Vec::new(alloc);
+    for draft in drafts {
+        let sections = section_lines(alloc, hull, *draft)?;
+        lines.extend_from_slice(&sections)?;
+    }
+    Ok(lines)
+}
+
+// Rows between the first lines and the last, which counts all.
+fn report_lines(alloc: Global, first: &[Line; 3], rows: &[Line]) -> Result<Vec<Line>, Memory>
+    requires few { length rows.now ≤ 4096 }
+    requires first { AreLines first.now }
+    requires rows { AreLines rows.now }
+    ensures lines { IfOk result (λ lines. lines.items ≡ first.now ++ (rows.now ++ line.End (4 + length rows.now) ∷ [])) }
+    ensures grammar { IfOk result (λ lines. AreLines lines.items) }
+{
+    let end = Line::End {
+        lines: 4 + rows.len() as u32,
+    };
+    let mut lines = Vec::from_slice(alloc, first)?;
+    lines.extend_from_slice(rows)?;
+    lines.push(end)?;
+    Ok(lines)
+}
