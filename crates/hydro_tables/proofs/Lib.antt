@@ -2,7 +2,6 @@ pub mod QuotientEnds
 pub mod WholeUnits
 pub mod CoarseEnds
 pub mod MomentEnds
-pub mod LevelPlanes
 pub mod Inverses
 pub mod FigureLaws
 pub mod RowQuotients

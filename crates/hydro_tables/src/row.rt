@@ -21,9 +21,10 @@ use outward_interval::Span;
 /// Grid units in a mm.
 const GRID: i64 = 1024;
 
-/// No quotient by the volume reaches 2^74 mm, and no centre of a lid 2^20 mm.
+/// No quotient by the volume reaches 2^74 mm.
 const REACH: u32 = 74;
 
+/// No centre of a lid reaches 2^20 mm.
 const REACH_OF_CENTRE: u32 = 20;
 
 /// The hydrostatics of a hull that floats upright at one draft.
@@ -36,15 +37,17 @@ pub struct HydroRow {
     pub volume: Span<20>,
     /// Its mass of water.
     pub displacement: Span<20>,
-    /// The x of the volume's centre, and its height above the base.
+    /// The x of the volume's centre.
     pub lcb: Option<Span<20>>,
+    /// The height of the volume's centre above the base.
     pub kb: Option<Span<20>>,
     /// The area of the waterplane.
     pub area: Span<20>,
     /// The x of the waterplane's centre.
     pub lcf: Option<Span<20>>,
-    /// The transverse and the longitudinal metacentre above the centre of the volume.
+    /// The transverse metacentre above the centre of the volume.
     pub bmt: Option<Span<20>>,
+    /// The longitudinal metacentre above the centre of the volume.
     pub bml: Option<Span<20>>,
     /// The transverse metacentre above the base.
     pub kmt: Option<Span<20>>,
@@ -57,8 +60,9 @@ pub struct HydroRow {
 /// The hydrostatics at a draft in mm above the base, up to 131071. The faces are the hull's boundary.
 ///
 /// `lcb`, `kb`, `bmt` and `kmt` are None exactly where the volume's lower end is at most 0, `lcf` exactly where the
-/// area's is, `bml` and `mct` exactly where either is. A lower end counts as 0 where a quotient would say nothing: of a
-/// volume below 1 mm³, say.
+/// area's is, `bml` and `mct` exactly where either is. A lower end counts as 0 where a quotient by it would say nothing:
+/// that of a volume below 1 mm³ or by which a quotient could reach 2^74 mm, and that of an area by which `lcf` could
+/// reach 2^20 mm.
 pub fn hydro_row(faces: &Faces, water: &Water, draft: u32) -> HydroRow
     requires draft { draft ≤ 131071 }
     ensures holds { (stations : List Station) → IsHull stations → AreFacesOf stations faces.now → HoldsFigures (integrals_of stations draft) water.now result }
