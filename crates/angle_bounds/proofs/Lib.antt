@@ -1,3 +1,10 @@
 pub mod Squares
 pub mod Quotients
 pub mod Order
+pub mod Remainders
+pub mod Rising
+pub mod Degrees
+pub mod NumberedDirections
+pub mod Table
+pub mod DegreeNumbers
+pub mod CountedPowers

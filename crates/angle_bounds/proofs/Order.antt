@@ -1,6 +1,8 @@
 -- From 0 to 90 degrees the cosine falls and the sine rises, so the ends of a bracket bound both.
-use Rattle.std.proofs.Common.{ap, ℕ, ◌*◌, ◌^◌, ◌≤◌, ℤ, pos, ◌*ℤ◌, ◌≤ℤ◌, arith}
-use Rattle.std.proofs.Math.Nat.{mul-le-mul_left, mul-le-mul_right}
+use Rattle.std.proofs.Common.{ap, ℕ, zero, suc, ◌⊎◌, ◌*◌, ◌^◌, ◌≤◌, ℤ, pos, ◌*ℤ◌, ◌≤ℤ◌, arith}
+use mathlib.Core.Logic.{inl, inr}
+use Rattle.std.proofs.Math.Nat.{mul-le-mul_left, mul-le-mul_right, le_of_mul-le-mul_left}
+use Rattle.std.proofs.lemmas.Bool.{cases_lt}
 use Rattle.std.proofs.lemmas.Int.{ints}
 use Rattle.exact_algebra.specs.Span.{ContainsRatio}
 use Rattle.exact_algebra.proofs.Fraction.{fractions}
@@ -8,15 +10,15 @@ use Rattle.exact_algebra.proofs.Order as Order
 use Rattle.exact_algebra.proofs.Division.{floor_is_greatest, ceiling_is_least}
 use Rattle.exact_algebra.proofs.Whole.{over-≼}
 use Rattle.exact_algebra.proofs.Span.{floor_over, ceiling_over, contains_over_out, positive-unit}
-use Rattle.angle_bounds.specs.Directions.{IsDirection, IsAtMost, IsLeastSpanOver, IsWithin, SpansContainEachDirection, SpansAreLeast}
+use Rattle.angle_bounds.specs.Directions.{IsDirection, IsAtMost, IsLeastSpanOver, IsWithin, DirectionsAreOrdered, SpansContainEachDirection, SpansAreLeast}
 use Rattle.angle_bounds.proofs.Squares.{le_of-square}
 
 -- of two directions the one that is at most the other has the greater cosine and the lesser sine
-cosine_falls : (c s r x y z : ℕ) → IsDirection c s r → IsDirection x y z → IsAtMost c s x y → x * r ≤ c * z
+pub cosine_falls : (c s r x y z : ℕ) → IsDirection c s r → IsDirection x y z → IsAtMost c s x y → x * r ≤ c * z
 cosine_falls c s r x y z d e h = le_of-square (x * r) (c * z)
     (omega (arith, ap (λ t. x * x * t) d.square, ap (λ t. c * c * t) e.square, mul-le-mul_left (s * x) h, mul-le-mul_right (y * c) h))
 
-sine_rises : (c s r x y z : ℕ) → IsDirection c s r → IsDirection x y z → IsAtMost c s x y → s * z ≤ y * r
+pub sine_rises : (c s r x y z : ℕ) → IsDirection c s r → IsDirection x y z → IsAtMost c s x y → s * z ≤ y * r
 sine_rises c s r x y z d e h = le_of-square (s * z) (y * r)
     (omega (arith, ap (λ t. y * y * t) d.square, ap (λ t. s * s * t) e.square, mul-le-mul_left (s * x) h, mul-le-mul_right (y * c) h))
 
@@ -57,3 +59,16 @@ spans_are_least F c s r c' s' r' c_lo c_hi s_lo s_hi lo hi low high bracket = (
 
     at_high : IsWithin c s c' s' c' s'
     at_high = record { from = bracket.ordered; to = same (s' * c') }
+
+-- at a right angle nothing is left of the cosine, and all directions are at most it
+transitive : (c s r x y z c' s' r' : ℕ) → IsDirection c s r → IsDirection x y z → IsDirection c' s' r' → IsAtMost c s x y → IsAtMost x y c' s' → IsAtMost c s c' s'
+transitive c s r (suc x) y z c' s' r' d e f h k = le_of_mul-le-mul_left {k = suc x} (omega (arith, mul-le-mul_left c' h, mul-le-mul_left c k)) (omega arith)
+transitive c s r zero zero z c' s' r' d e f h k = absurd (omega (arith, e.square, mul-le-mul_left z e.positive, e.positive))
+transitive c s r zero (suc y) z zero s' r' d e f h k = omega arith
+transitive c s r zero (suc y) z (suc c') s' r' d e f h k = absurd (omega (arith, k))
+
+total : (c s x y : ℕ) → IsAtMost c s x y ⊎ IsAtMost x y c s
+total c s x y = elim (cases_lt (s * x) (y * c)) [ inl less ↦ inl (omega (arith, less)) | inr h ↦ inr h ]
+
+pub directions_are_ordered : DirectionsAreOrdered
+directions_are_ordered = record { total = total; transitive = transitive }

@@ -1,5 +1,5 @@
 -- Directions from 0 to 90 degrees by whole numbers, their order, and the spans of cosine and sine over a bracket of them.
-use Rattle.std.specs.Prelude.{◌≡◌, ℕ, ◌+◌, ◌*◌, ◌^◌, ◌≤◌, ℤ, pos, ◌*ℤ◌, ◌≤ℤ◌}
+use Rattle.std.specs.Prelude.{◌≡◌, ℕ, ◌+◌, ◌*◌, ◌^◌, ◌≤◌, ◌⊎◌, ℤ, pos, ◌*ℤ◌, ◌≤ℤ◌}
 use Rattle.exact_algebra.specs.Span.{ContainsRatio, IsFloor, IsCeiling}
 
 -- the direction with the cosine c / r and the sine s / r
@@ -33,6 +33,11 @@ pub record IsWithin (c s c' s' x y : ℕ) : Type 0 where
   pub to : IsAtMost x y c' s'
 
 -- ---- laws
+-- directions are in one order
+pub record DirectionsAreOrdered : Type 0 where
+  pub total : (c s x y : ℕ) → IsAtMost c s x y ⊎ IsAtMost x y c s
+  pub transitive : (c s r x y z c' s' r' : ℕ) → IsDirection c s r → IsDirection x y z → IsDirection c' s' r' → IsAtMost c s x y → IsAtMost x y c' s' → IsAtMost c s c' s'
+
 -- the cosine and the sine of each direction in a bracket lie in its spans
 abbrev pub SpansContainEachDirection : Type 0
 SpansContainEachDirection = (F c s r c' s' r' x y z : ℕ) (c_lo c_hi s_lo s_hi : ℤ)

@@ -2,11 +2,18 @@
 #![tactic(auto)]
 
 mod bracket;
+mod degree;
 mod laws;
+mod numbers;
 #[cfg(test)]
 mod tests;
 mod triple;
 
-pub use bracket::{Bracket, exact};
-pub use laws::{spans_are_least, spans_contain_each_direction};
+pub use bracket::{Bracket, bracket_of, exact, leaf};
+pub use degree::Degree;
+pub use laws::{
+    degrees_rise, directions_are_ordered, numbers_part_degrees, numbers_rise, numbers_stand_apart,
+    powers_are_counted, spans_are_least, spans_contain_each_direction,
+};
+pub use numbers::number_of;
 pub use triple::Triple;
