@@ -5,3 +5,4 @@ pub mod Divisors
 pub mod Sides
 pub mod Widths
 pub mod Contained
+pub mod Narrow

@@ -8,6 +8,7 @@ use Rattle.exact_algebra.proofs.WholeNumbers.{integers}
 use Rattle.exact_algebra.proofs.Products.{magnitude, rounded-width}
 use Rattle.exact_algebra.specs.Span.{IsFloor, IsCeiling}
 use Rattle.outward_interval.specs.Ends.{AreLeastEnds, AreQuotientEnds, least_divisor, greatest_divisor}
+use Rattle.outward_interval.specs.Widths.{nearer}
 use Rattle.outward_interval.proofs.Quotients.{le-times}
 
 -- a product of width p less two parts of widths m and o, in wholes of so many units
@@ -97,3 +98,28 @@ pub quotient-width : (F : ℕ) (a b c d lo hi : ℤ) → pos 1 ≤ℤ c → c �
 quotient-width F a b (pos m) (pos n) lo hi some order ab ends = by_divisors (2 ^ F) m n a b lo hi order ab ends.low ends.high
 quotient-width F a b (pos m) (negsuc n) lo hi some order ab ends = absurd (omega (arith, ints))
 quotient-width F a b (negsuc m) d lo hi some order ab ends = absurd (omega (arith, ints))
+
+-- ---- sharper: the nearer end in place of the magnitude
+abbrev nearer_spread : ℤ → ℤ → ℤ → ℤ → ℤ
+nearer_spread a b c d = (b -ℤ a) *ℤ d +ℤ pos (nearer a b) *ℤ (d -ℤ c)
+
+same : (z : ℤ) → z ≤ℤ z
+same z = omega (arith, ints)
+
+sharp_by_divisors : (k m n : ℕ) (a b lo hi : ℤ) → a ≤ℤ b → IsFloor (a *ℤ pos k) (unsigned_abs (least_divisor a (pos m) (pos n))) lo → IsCeiling (b *ℤ pos k) (unsigned_abs (greatest_divisor b (pos m) (pos n))) hi
+    → ((hi -ℤ lo) *ℤ pos (m * n)) ≤ℤ (nearer_spread a b (pos m) (pos n) *ℤ pos k +ℤ pos (2 * (m * n)))
+sharp_by_divisors k m n (pos x) (pos y) lo hi ab low high = crossed k n m m n (m * n) (pos x) (pos y) lo hi (nearer_spread (pos x) (pos y) (pos m) (pos n)) (omega arith) refl low.next high.before
+    (rw (ring integers (pos x ∷ pos y ∷ pos m ∷ pos n ∷ []) (var 1 :* var 3 :- var 0 :* var 2) ((var 1 :- var 0) :* var 3 :+ var 0 :* (var 3 :- var 2)) refl) (same (nearer_spread (pos x) (pos y) (pos m) (pos n))))
+sharp_by_divisors k m n (pos x) (negsuc y) lo hi ab low high = absurd (omega (arith, ints))
+sharp_by_divisors k m n (negsuc x) (pos y) lo hi ab low high = crossed k m n m n (m * n) (negsuc x) (pos y) lo hi (nearer_spread (negsuc x) (pos y) (pos m) (pos n)) refl refl low.next high.before
+    (rw (ring integers (negsuc x ∷ pos y ∷ pos m ∷ pos n ∷ []) (var 1 :* var 3 :- var 0 :* var 3) ((var 1 :- var 0) :* var 3 :+ number 0 :* (var 3 :- var 2)) refl) (same (nearer_spread (negsuc x) (pos y) (pos m) (pos n))))
+sharp_by_divisors k m n (negsuc x) (negsuc y) lo hi ab low high = crossed k m n n m (m * n) (negsuc x) (negsuc y) lo hi (nearer_spread (negsuc x) (negsuc y) (pos m) (pos n)) refl (omega arith) low.next high.before
+    (rw (ring integers (negsuc x ∷ negsuc y ∷ pos m ∷ pos n ∷ []) (var 1 :* var 2 :- var 0 :* var 3) ((var 1 :- var 0) :* var 3 :+ opposite (var 1) :* (var 3 :- var 2)) refl) (same (nearer_spread (negsuc x) (negsuc y) (pos m) (pos n))))
+
+-- a quotient is no wider, over the product of both ends of the divisor, than the width times the divisor's upper end and the nearer end
+-- times the divisor's width, and one unit for each end
+pub quotient-sharp_width : (F : ℕ) (a b c d lo hi : ℤ) → pos 1 ≤ℤ c → c ≤ℤ d → a ≤ℤ b → AreQuotientEnds F a b c d lo hi
+    → ((hi -ℤ lo) *ℤ (c *ℤ d)) ≤ℤ (((b -ℤ a) *ℤ d +ℤ pos (nearer a b) *ℤ (d -ℤ c)) *ℤ pos (2 ^ F) +ℤ pos 2 *ℤ (c *ℤ d))
+quotient-sharp_width F a b (pos m) (pos n) lo hi some order ab ends = sharp_by_divisors (2 ^ F) m n a b lo hi ab ends.low ends.high
+quotient-sharp_width F a b (pos m) (negsuc n) lo hi some order ab ends = absurd (omega (arith, ints))
+quotient-sharp_width F a b (negsuc m) d lo hi some order ab ends = absurd (omega (arith, ints))

@@ -3,3 +3,4 @@ pub mod Kept
 pub mod Laws
 pub mod Printed
 pub mod Text
+pub mod Widths
