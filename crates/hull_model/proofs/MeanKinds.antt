@@ -62,7 +62,7 @@ kind_rises κ = mean_rises κ.f κ.g κ.weight κ.rising κ.mean κ.is_twelfth
 pub kind_nonnegative : (κ : Kind) (x y z : Fraction) → sign (mean_at κ x y z) ≢ below
 kind_nonnegative κ = mean_nonnegative κ.f κ.g κ.weight κ.rising κ.mean κ.is_twelfth
 
-product-swap : (f g : Place → Fraction) (t : Triangle Place) → product_mean f g t ≡ product_mean g f t
+pub product-swap : (f g : Place → Fraction) (t : Triangle Place) → product_mean f g t ≡ product_mean g f t
 product-swap f g t = ap (λ x. x ⊗ inverse N12) (ring fraction_ring (f t.a ∷ f t.b ∷ f t.c ∷ g t.a ∷ g t.b ∷ g t.c ∷ [])
     ((var 0 :* var 3 :+ var 1 :* var 4 :+ var 2 :* var 5) :+ (var 0 :+ var 1 :+ var 2) :* (var 3 :+ var 4 :+ var 5))
     ((var 3 :* var 0 :+ var 4 :* var 1 :+ var 5 :* var 2) :+ (var 3 :+ var 4 :+ var 5) :* (var 0 :+ var 1 :+ var 2)) refl)

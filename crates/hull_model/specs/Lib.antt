@@ -13,8 +13,13 @@ pub mod Strips
 pub mod SignedFaces
 pub mod Boundary
 pub mod Waterplane
+pub mod LevelPlanes
 pub mod Submerged
 pub mod Lid
+pub mod Slabs
+pub mod Flooded
+pub mod FaceParts
+pub mod TriangleSums
 pub mod Worked
 pub mod Section
 pub mod Stations

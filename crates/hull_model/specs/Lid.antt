@@ -22,9 +22,13 @@ lid_by _ _ _ _ a b c d = []
 abbrev pub lid_of : {C : Type 0} → Corners C → Tetrahedron C → List (Triangle C)
 lid_of corners t = lid_by (side corners t.a) (side corners t.b) (side corners t.c) (side corners t.d) t.a t.b t.c t.d
 
+-- those of kept pieces, one after another
+abbrev pub lids : {C : Type 0} → Corners C → List (Tetrahedron C) → List (Triangle C)
+lids corners pieces = flat_map (lid_of corners) pieces
+
 -- the lid of a hull at a level
 unfoldable pub lid : Fraction → List Station → List (Triangle Position)
-lid at stations = flat_map (lid_of (under (upright at) (first_x stations) (last_x stations))) (submerged_body (upright at) stations)
+lid at stations = lids (under (upright at) (first_x stations) (last_x stations)) (submerged_body (upright at) stations)
 
 -- the area of a level triangle
 unfoldable pub level_area : Triangle Position → Fraction

@@ -21,6 +21,10 @@ last_x (s ∷ []) = s.x
 last_x (s ∷ next ∷ rest) = last_x (next ∷ rest)
 
 -- the kept pieces of tetrahedra, one after another
+abbrev pub submerged : Waterplane → ℤ → ℤ → List (Tetrahedron Position) → List (Tetrahedron Position)
+submerged plane first last tets = flat_map (kept_pieces (under plane first last)) tets
+
+-- the same of tetrahedra with nodes as corners
 unfoldable pub submerged_pieces : Waterplane → ℤ → ℤ → List (Tetrahedron Node) → List (Tetrahedron Position)
 submerged_pieces plane first last tets = flat_map (λ t. kept_pieces (under plane first last) (with_corners position_of t)) tets
 

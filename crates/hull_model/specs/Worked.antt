@@ -4,10 +4,13 @@ use native.Mathlib.Nat.{zero-lt-suc}
 use Rattle.std.specs.Prelude.{◌≡◌, ℕ, ◌*◌, ◌^◌, pos, List, [], ◌∷◌}
 use Rattle.exact_algebra.proofs.Fraction.{Fraction, nought, ◌⊗◌, inverse}
 use Rattle.exact_algebra.proofs.Whole.{whole}
+use Rattle.hull_model.specs.declared.slab.Slab.{Slab}
 use Rattle.hull_model.specs.declared.station.Station.{Station}
+use Rattle.hull_model.specs.Limits.{IsSlab}
 use Rattle.hull_model.specs.Waterplane.{Waterplane, upright}
 use Rattle.hull_model.specs.Submerged.{submerged_volume, mx, mv, mu}
 use Rattle.hull_model.specs.Lid.{lid_area, lid_x, lid_yy, lid_xx}
+use Rattle.hull_model.specs.Flooded.{volume_left, mx_left}
 
 abbrev pub natural : ℕ → Fraction
 natural n = whole (pos n)
@@ -57,3 +60,16 @@ pub record WorkedWedge : Type 0 where
 pub record WorkedHeeled : Type 0 where
   pub volume : submerged_volume heeled barge ≡ natural (10 ^ 13)
   pub mv : mv heeled barge ≡ quotient (10525 * 10 ^ 16) 2808
+
+-- the slab at the fore end of the barge, a tenth of its length, which floods whole
+abbrev pub IsForeTenth : Type 0
+IsForeTenth = IsSlab (pos 90000) (pos 100000) 1000
+
+abbrev pub fore_tenth : IsForeTenth → Slab
+fore_tenth limits = record { aft = pos 90000; fore = pos 100000; permeability = 1000; limits = limits }
+
+-- the barge at a draft of 5 m with that slab flooded: 9000 m³, their centre 45 m forward of the aft end
+pub record WorkedFlooded : Type 0 where
+  pub limits : IsForeTenth
+  pub volume : volume_left (upright (natural 5000)) barge (fore_tenth limits ∷ []) ≡ natural (9 * 10 ^ 12)
+  pub mx : mx_left (upright (natural 5000)) barge (fore_tenth limits ∷ []) ≡ natural (405 * 10 ^ 15)

@@ -7,7 +7,7 @@ ghost use Rattle.hull_model.specs.Section.{NothingIsLeftToSplit};
 ghost use Rattle.hull_model.specs.Submerged.{NoEdgeIsLeftToSplit};
 ghost use Rattle.hull_model.specs.TriangleLaws.{ObeysLaws, RisesWithDepths, RisesByAtMost};
 ghost use Rattle.hull_model.specs.WetMean.{linear_mean, product_mean, coordinate, wet_share, wet_corner, wet_pair, wet_depth, weighted_depth};
-ghost use Rattle.hull_model.specs.Worked.{WorkedBargeHalf, WorkedBargeAtDeck, WorkedBargeAtBottom, WorkedWedge, WorkedHeeled};
+ghost use Rattle.hull_model.specs.Worked.{WorkedBargeHalf, WorkedBargeAtDeck, WorkedBargeAtBottom, WorkedWedge, WorkedHeeled, WorkedFlooded};
 
 /// Three rounds of splits cut a triangle to its end: no piece has an edge that crosses the draft line.
 pub fn nothing_is_left_to_split()
@@ -32,6 +32,7 @@ pub fn worked_values()
     ensures barge_at_bottom { WorkedBargeAtBottom }
     ensures wedge { WorkedWedge }
     ensures heeled { WorkedHeeled }
+    ensures flooded { WorkedFlooded }
 {}
 
 /// The law on triangles, for each mean over the wet part of a triangle: of 1, of a coordinate, of the product of

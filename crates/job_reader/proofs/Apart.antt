@@ -10,7 +10,7 @@ use Rattle.job_reader.specs.declared.fault.JobFault.TheVariants as fault
 use Rattle.job_reader.specs.declared.key.Key.{Key}
 use Rattle.job_reader.specs.Checks.{is_among, twice_by, flooded_by, overlapped_from, overlap_by, slab_named}
 use Rattle.job_reader.specs.Faults.{unless, first_from}
-use Rattle.job_reader.specs.Limits.{ends_of, overlap, is_apart, are_apart}
+use Rattle.hull_model.specs.Slabs.{ends_of, overlap, is_apart, are_apart}
 use Rattle.job_reader.proofs.CheckFacts.{known-named}
 use Rattle.job_reader.proofs.Firsts.{none_either, none_at}
 use Rattle.std.specs.Cmp.Lexicographic.{pointwise, nat_list_eq_equiv}

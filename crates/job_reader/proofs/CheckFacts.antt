@@ -9,7 +9,7 @@ use Rattle.job_reader.specs.Checks.{is_among, slab_named, flooded_by, overlapped
 use Rattle.job_reader.specs.Faults.{◌or_later◌, unless}
 use Rattle.job_reader.specs.declared.fault.JobFault.TheVariants as fault
 use Rattle.job_reader.specs.declared.key.Key.TheVariants as key
-use Rattle.job_reader.specs.Limits.{overlap}
+use Rattle.hull_model.specs.Slabs.{overlap}
 
 pub list_any-map : {A B : Type 0} (p : B → Bool) (f : A → B) (xs : List A) → list_any p (map f xs) ≡ list_any (λ x. p (f x)) xs
 list_any-map p f [] = refl

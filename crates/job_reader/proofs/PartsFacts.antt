@@ -15,7 +15,8 @@ use Rattle.job_reader.specs.Rules as rule
 use Rattle.std.proofs.lemmas.List.{length-map}
 use Rattle.std.proofs.lemmas.Simd.{map-map}
 use Rattle.job_reader.specs.declared.fault.JobFault.{JobFault}
-use Rattle.job_reader.specs.Limits.{ends_of, has_room}
+use Rattle.hull_model.specs.Slabs.{ends_of}
+use Rattle.job_reader.specs.Limits.{has_room}
 use Rattle.job_reader.specs.Parts.{SaysParts, parts_fault}
 use Rattle.job_reader.specs.Values.{name_of, names_of}
 use Rattle.job_reader.proofs.Firsts.{none_either}

@@ -8,7 +8,7 @@ use Rattle.job_reader.specs.declared.fault.JobFault.{JobFault}
 use Rattle.job_reader.specs.declared.fault.JobFault.TheVariants.{Twice, NotNamed, Overlap}
 use Rattle.job_reader.specs.declared.key.Key.{Key}
 use Rattle.job_reader.specs.declared.key.Key.TheVariants.{DamageFlooded}
-use Rattle.job_reader.specs.Limits.{overlap}
+use Rattle.hull_model.specs.Slabs.{overlap}
 use Rattle.job_reader.specs.Faults.{◌or_later◌, unless, first_in}
 
 abbrev pub is_among : List ℕ → List (List ℕ) → Bool

@@ -36,6 +36,7 @@ item_fault entry t =
 pub record SaysItem (t : Members) (item : Item) : Type 0 where
   pub mass : item.mass ≡ whole_of rule.item_mass t
   pub x : item.x ≡ pos (whole_of rule.item_x t)
+  pub y : item.y ≡ pos 0
   pub z : item.z ≡ pos (whole_of rule.item_z t)
   pub free_surface : item.free_surface ≡ whole_of rule.item_free t
 

@@ -84,6 +84,7 @@ PlanIs (Some value) None = ⊥
 PlanIs (Some value) (Some plan) = SaysPlan (table_in value) plan
 
 pub record IsJobOf (document : Members) (job : Job) : Type 0 where
+  pub version : job.version ≡ 1
   pub density : job.water.density ≡ whole_of rule.density document
   pub length_bp : job.water.length_bp ≡ whole_of rule.length_bp document
   pub margin : job.margin ≡ whole_of rule.margin document

@@ -1,7 +1,6 @@
 -- What the parts of a job keep, as tests.
-use Rattle.std.specs.Prelude.{ℕ, ◌%◌, ◌==◌, ℤ, pos, int_le, int_lt, nat_le, Bool, true, not, ◌&&◌, nat_abs, List, [], ◌∷◌, length}
+use Rattle.std.specs.Prelude.{ℕ, ◌%◌, ◌==◌, ℤ, pos, neg_ℤ, int_le, nat_le, Bool, ◌&&◌, nat_abs, List, length}
 use Rattle.std.specs.List.{list_all}
-use Rattle.hull_model.specs.declared.slab.Slab.{Slab}
 
 -- from least to most
 abbrev pub is_from : ℕ → ℕ → ℕ → Bool
@@ -21,36 +20,24 @@ is_at_most most list = nat_le (length list) most
 abbrev pub is_mass : ℕ → Bool
 is_mass n = nat_le n 68719476736
 
-abbrev pub is_item : ℕ → ℤ → ℤ → ℕ → Bool
-is_item mass x z free_surface = ((is_mass mass && is_whole_from 0 524287 x) && is_whole_from 0 131071 z) && is_mass free_surface
+-- at most so far from 0
+abbrev pub is_whole_near : ℕ → ℤ → Bool
+is_whole_near most n = int_le (neg_ℤ (pos most)) n && int_le n (pos most)
+
+abbrev pub is_item : ℕ → ℤ → ℤ → ℤ → ℕ → Bool
+is_item mass x y z free_surface = (((is_mass mass && is_whole_from 0 524287 x) && is_whole_near 65535 y) && is_whole_from 0 131071 z) && is_mass free_surface
 
 -- at most 32 centres in mm, an even step in mm, a permeability in thousandths
 abbrev pub is_plan : List ℤ → ℤ → ℕ → Bool
 is_plan centres step permeability = ((is_at_most 32 centres && list_all (is_whole_from 0 524287) centres) && (is_whole_from 2 100000 step && is_even step)) && nat_le permeability 1000
 
--- the aft and the fore end of a slab
-abbrev pub ends_of : Slab → ℤ × ℤ
-ends_of s = (s.aft, s.fore)
-
--- two pairs of ends that share more than a plane
-abbrev pub overlap : ℤ × ℤ → ℤ × ℤ → Bool
-overlap a b = int_lt a.0 b.1 && int_lt b.0 a.1
-
-abbrev pub shares : Slab → Slab → Bool
-shares s t = overlap (ends_of s) (ends_of t)
-
--- the slab shares no more than a plane with any of these
-abbrev pub is_apart : Slab → List Slab → Bool
-is_apart s others = list_all (λ t. not (shares s t)) others
-
--- no two of the slabs share more than a plane
-abbrev pub are_apart : List Slab → Bool
-are_apart [] = true
-are_apart (s ∷ rest) = is_apart s rest && are_apart rest
-
 -- the counts and ranges of a job: a margin in mm, drafts in mm, masses in kg
 abbrev pub is_job : ℕ → List ℕ → List ℕ → Bool
 is_job margin drafts masses = (is_from 76 10000 margin && (is_at_most 64 drafts && list_all (is_from 0 131071) drafts)) && (is_at_most 16 masses && list_all (is_from 1 68719476736) masses)
+
+-- the versions of a job
+abbrev pub is_version : ℕ → Bool
+is_version n = is_from 1 2 n
 
 -- at most 256 items, 64 openings, 64 compartments and 32 damage cases
 abbrev pub has_room : {A B C D : Type 0} → List A → List B → List C → List D → Bool

@@ -8,7 +8,8 @@ use Rattle.job_reader.specs.Checks.{twice_fault, cases_fault, overlap_fault}
 use Rattle.job_reader.specs.Entries.{SaysItemEntry, SaysOpeningEntry, SaysCompartmentEntry, SaysDamageEntry, SayAll, tables_at}
 use Rattle.job_reader.specs.Faults.{◌or_later◌}
 use Rattle.job_reader.specs.Job.{PlanIs}
-use Rattle.job_reader.specs.Limits.{is_job, ends_of}
+use Rattle.hull_model.specs.Slabs.{ends_of}
+use Rattle.job_reader.specs.Limits.{is_job}
 use Rattle.job_reader.specs.Rules as rule
 use Rattle.job_reader.specs.Values.{at, whole_of, wholes_of}
 

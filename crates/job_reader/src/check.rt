@@ -3,7 +3,7 @@ ghost use Rattle.std.specs.Prelude.{◌≡◌, ◌⊎◌, ◌<◌, ◌^◌, ◌=
 ghost use Rattle.std.specs.List.{list_any};
 ghost use Rattle.std.specs.Str.{bytes_eq};
 ghost use Rattle.job_reader.specs.Checks as spec;
-ghost use Rattle.job_reader.specs.Limits.{ends_of};
+ghost use Rattle.hull_model.specs.Slabs.{ends_of};
 
 use crate::entry::Named;
 use crate::job::shares;

@@ -94,6 +94,7 @@ fn item_of(table: &Table, entry: u32) -> Result<Named<Item>, JobFault>
     let value = Item {
         mass,
         x: x as i64,
+        y: 0,
         z: z as i64,
         free_surface,
     };

@@ -3,7 +3,8 @@ ghost use Rattle.std.specs.Prelude.{◌≡◌, ◌↔◌, ◌==◌, true, [], Is
 ghost use Rattle.std.specs.Cmp.Lexicographic.{pointwise};
 ghost use Rattle.indexmap.specs.IndexMap.{insert_entry};
 ghost use Rattle.job_reader.specs.Checks.{slab_named};
-ghost use Rattle.job_reader.specs.Limits.{is_item, is_plan, are_apart, is_apart, shares, is_job, has_room};
+ghost use Rattle.hull_model.specs.Slabs.{are_apart, is_apart, shares};
+ghost use Rattle.job_reader.specs.Limits.{is_item, is_plan, is_job, is_version, has_room};
 
 use crate::{Name, Sequence};
 use exact_fraction::Memory;
@@ -14,15 +15,16 @@ use std::marker::Model;
 
 /// A mass in the ship.
 ///
-/// `mass` in kg, from 0 to 2^36; its centre's `x` and height `z` in mm, `x` from 0 to 524287 and `z` from 0
-/// to 131071; its free surface moment in kg·m, from 0 to 2^36.
+/// `mass` in kg, from 0 to 2^36; its centre's `x`, `y` and height `z` in mm, `x` from 0 to 524287, `y` from -65535 to
+/// 65535, below 0 on the port side, and `z` from 0 to 131071; its free surface moment in kg·m, from 0 to 2^36.
 #[derive(Clone, Copy, Debug, PartialEq, Eq)]
 pub struct Item {
     pub mass: u64,
     pub x: i64,
+    pub y: i64,
     pub z: i64,
     pub free_surface: u64,
-    ghost limits: { is_item mass x z free_surface ≡ true },
+    ghost limits: { is_item mass x y z free_surface ≡ true },
 }
 
 /// A damage case by the slabs that flood, in the order of their names. No two share more than a plane.
@@ -104,11 +106,12 @@ impl Compartments {
 
 /// What is asked of a hull: its water, its loading, its openings, its compartments and their flooding.
 ///
-/// `margin` is in mm, from 76 to 10000. At most 64 drafts in mm, from 0 to 131071; at most 16 masses in kg
+/// `version` is that of the job's file, 1 or 2. `margin` is in mm, from 76 to 10000. At most 64 drafts in mm, from 0 to 131071; at most 16 masses in kg
 /// whose cross curves are asked for, from 1 to 2^36; at most 256 items, 64 openings, 64 compartments and 32
 /// damage cases.
 #[derive(Drop)]
 pub struct Job {
+    pub version: u32,
     pub water: Water,
     pub margin: u32,
     pub drafts: Sequence<u32>,
@@ -118,6 +121,7 @@ pub struct Job {
     pub compartments: Compartments,
     pub damages: Sequence<Damage>,
     pub floodable: Option<FloodPlan>,
+    ghost versions: { is_version version ≡ true },
     ghost limits: { is_job margin drafts masses ≡ true },
     ghost room: { has_room items openings compartments damages ≡ true },
 }

@@ -2,7 +2,7 @@
 ghost use Rattle.std.specs.Prelude.{◌≡◌, ◌<◌, ◌^◌, true, None, Some, length, map, is_some, IfOk, IfErr};
 ghost use Rattle.std.specs.List.{list_all};
 ghost use Rattle.job_reader.specs.Checks as spec;
-ghost use Rattle.job_reader.specs.Limits.{are_apart, ends_of};
+ghost use Rattle.hull_model.specs.Slabs.{are_apart, ends_of};
 
 use crate::entry::Named;
 use crate::{Compartments, Damage, JobFault, Key, Name, Sequence};

@@ -2,7 +2,7 @@
 ghost use Rattle.std.specs.Prelude.{◌≡◌, ◌⊎◌, ◌≤◌, ◌<◌, ◌^◌, None, Some, length, map, true, OnOk, IfOk, IfErr, IsErrOf};
 ghost use Rattle.toml.specs.View.{table_view};
 ghost use Rattle.job_reader.specs.Job as spec;
-ghost use Rattle.job_reader.specs.Limits.{ends_of};
+ghost use Rattle.hull_model.specs.Slabs.{ends_of};
 ghost use Rattle.job_reader.specs.Parts.{SaysParts, parts_fault};
 ghost use Rattle.job_reader.specs.Values as values;
 
@@ -16,9 +16,12 @@ use hull_model::{Opening, Slab, Water};
 use std::alloc::Global;
 use toml::Table;
 
+/// The one version of job files that is read.
+const VERSION: u32 = 1;
+
 /// The job of a job file, or the first fault that the file has.
 ///
-/// `bytes` is a TOML document; all its numbers are integers. README has the table of keys with their units
+/// `bytes` is a TOML document of version 1, whose items stand on the centreplane; all its numbers are integers. README has the table of keys with their units
 /// and ranges; faults are looked for in the order of that table. Takes memory for the document and the job.
 pub fn read_job(alloc: Global, bytes: &[u8]) -> Result<Job, JobFault>
     requires { length bytes.now < 2 ^ 32 }
@@ -156,6 +159,7 @@ fn job_of(alloc: Global, document: &Table) -> Result<Job, JobFault>
     let items = values_of(alloc, &parts.items)?;
     let openings = values_of(alloc, &parts.openings)?;
     Ok(Job {
+        version: VERSION,
         water: parts.water,
         margin: parts.margin,
         drafts: Sequence::new(parts.drafts),

@@ -1,4 +1,4 @@
-use Rattle.hull_model.proofs.Worked.{barge_half, barge_at_deck, barge_at_bottom, wedge_half, barge_heeled}
+use Rattle.hull_model.proofs.Worked.{barge_half, barge_at_deck, barge_at_bottom, wedge_half, barge_heeled, barge_flooded}
 use Rattle.hull_model.proofs.laws.worked_values.Goals as goal
 
 pub returns-clause-barge_half : goal.returns-clause-barge_half
@@ -15,3 +15,6 @@ returns-clause-wedge c = wedge_half
 
 pub returns-clause-heeled : goal.returns-clause-heeled
 returns-clause-heeled c = barge_heeled
+
+pub returns-clause-flooded : goal.returns-clause-flooded
+returns-clause-flooded c = barge_flooded

@@ -1,7 +1,7 @@
 use Rattle.std.proofs.Common.{option_map, sym, ap, ◌∙◌, ◌+◌}
 use Rattle.job_reader.specs.declared.fault.JobFault.TheVariants as fault
 use Rattle.job_reader.specs.Checks.{overlap_by}
-use Rattle.job_reader.specs.Limits.{ends_of}
+use Rattle.hull_model.specs.Slabs.{ends_of}
 use Rattle.job_reader.proofs.Firsts.{goes_on, stops, ends}
 use Rattle.job_reader.proofs.check.check_apart.Goals as goal
 

@@ -1,6 +1,6 @@
 use Rattle.std.proofs.Common.{◌≡◌, map}
 use Rattle.job_reader.specs.Checks.{overlap_by, overlap_fault}
-use Rattle.job_reader.specs.Limits.{ends_of}
+use Rattle.hull_model.specs.Slabs.{ends_of}
 use Rattle.job_reader.proofs.Firsts.{from}
 use Rattle.job_reader.proofs.check.check_apart.Given as goal
 

@@ -1,5 +1,5 @@
 use Rattle.std.proofs.Common.{sym, ap, ◌∙◌, ◌+◌}
-use Rattle.job_reader.specs.Limits.{ends_of}
+use Rattle.hull_model.specs.Slabs.{ends_of}
 use Rattle.job_reader.proofs.CheckFacts.{passes, meets, none_met}
 use Rattle.job_reader.proofs.check.overlapped.Goals as goal
 

@@ -1,6 +1,6 @@
 use Rattle.std.proofs.Common.{◌≡◌, ◌+◌, map, drop}
 use Rattle.job_reader.specs.Checks.{overlapped_from}
-use Rattle.job_reader.specs.Limits.{ends_of}
+use Rattle.hull_model.specs.Slabs.{ends_of}
 use Rattle.job_reader.proofs.check.overlapped.Given as goal
 
 abbrev pub invariant-loop-compartment : goal.invariant-loop-compartment

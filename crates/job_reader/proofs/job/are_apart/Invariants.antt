@@ -1,5 +1,5 @@
 use Rattle.std.proofs.Common.{◌≡◌, length}
-use Rattle.job_reader.specs.Limits.{are_apart}
+use Rattle.hull_model.specs.Slabs.{are_apart}
 use Rattle.job_reader.proofs.job.are_apart.Given as goal
 
 abbrev pub invariant-loop-rest : goal.invariant-loop-rest

@@ -3,7 +3,7 @@ use Rattle.std.proofs.lemmas.List.{map_more}
 use Rattle.std.proofs.lemmas.Simd.{map-map}
 use Rattle.job_reader.specs.declared.key.Key.TheVariants as key
 use Rattle.job_reader.proofs.CheckFacts.{take_past}
-use Rattle.job_reader.specs.Limits.{ends_of}
+use Rattle.hull_model.specs.Slabs.{ends_of}
 use Rattle.job_reader.specs.Checks.{is_among}
 use Rattle.job_reader.proofs.Apart.{name_new, inserted}
 use Rattle.job_reader.proofs.parts.by_name.Goals as goal
