@@ -12,6 +12,7 @@ use Rattle.hull_model.specs.TriangleCut.{Triangle, kept_pieces}
 use Rattle.hull_model.specs.Waterplane.{Position}
 use Rattle.hull_model.specs.WetMean.{Place, places, with_depths, share_of, wet_mean, linear_mean, product_mean, coordinate, wet_share, wet_corner, wet_pair}
 use Rattle.hull_model.proofs.WetSum.{IsLinearOn, N12, wet_mean-form}
+use Rattle.hull_model.proofs.MeanKinds.{product-swap}
 use Rattle.hull_model.proofs.TriangleLaws.{by_twelve, constant, depth_at, constant_linear, depth_linear, coordinate_linear, share-twelfth, linear-twelfth}
 use Rattle.hull_polyhedron.specs.Columns.{depth, by_corners, seen_area, column, seen_part}
 use Rattle.hull_polyhedron.specs.ColumnMeans.{ColumnsAreKnownByMeans, SeenPartsAreKnownByMeans}
@@ -29,13 +30,6 @@ share_mean : (h k l : Fraction) → wet_mean (product_mean ones ones) h k l ≡ 
 share_mean h k l = by_twelve _ _ (mean_of_two-form one one one one one one h k l ∙ sym (wet_mean-form (λ t. one) constant constant constant_linear constant_linear share-twelfth h k l))
 
 -- ---- the order of the two functions
-product-swap : (f g : Place → Fraction) (t : Triangle Place) → product_mean f g t ≡ product_mean g f t
-product-swap f g t = ring fraction_ring (f t.a ∷ f t.b ∷ f t.c ∷ g t.a ∷ g t.b ∷ g t.c ∷ inverse N12 ∷ [])
-    (mean (var 0) (var 1) (var 2) (var 3) (var 4) (var 5)) (mean (var 3) (var 4) (var 5) (var 0) (var 1) (var 2)) refl
-  where
-    mean : Expression → Expression → Expression → Expression → Expression → Expression → Expression
-    mean p q r u w z = ((p :* u :+ q :* w :+ r :* z) :+ (p :+ q :+ r) :* (u :+ w :+ z)) :* var 6
-
 mean-swap : (f g : Place → Fraction) (h k l : Fraction) → wet_mean (product_mean f g) h k l ≡ wet_mean (product_mean g f) h k l
 mean-swap f g h k l = λ i. wet_mean (λ t. product-swap f g t i) h k l
 

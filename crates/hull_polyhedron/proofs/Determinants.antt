@@ -15,11 +15,12 @@ use Rattle.exact_algebra.proofs.Whole.{whole, whole-add, whole-mul, positive-who
 use Rattle.exact_algebra.proofs.Order as Order
 use Rattle.exact_algebra.proofs.Bounds as Bounds
 use Rattle.hull_model.specs.Fractions.{interpolated, magnitude, magnitude_by}
-use Rattle.hull_model.specs.TriangleCut.{Corners, crossing}
+use Rattle.hull_model.specs.Flooded.{cut_by}
+use Rattle.hull_model.specs.TriangleCut.{crossing}
 use Rattle.hull_model.specs.TetrahedronCut.{Tetrahedron, tetrahedron, are_parted}
-use Rattle.hull_model.specs.Waterplane.{Waterplane, Position, height, side_distance, level_at, under}
+use Rattle.hull_model.specs.Waterplane.{Waterplane, Position, height, side_distance, level_at}
 use Rattle.hull_model.specs.Submerged.{determinant}
-use Rattle.hull_model.proofs.TetrahedronRounds.{depth_linear}
+use Rattle.hull_model.proofs.TriangleCut as Cut
 use Rattle.hull_model.proofs.CutInduction.{IsInside, inside, crossing_parameter}
 use Rattle.hull_polyhedron.specs.Columns.{depth}
 use Rattle.hull_polyhedron.specs.CentralLaw.{PointOutwards}
@@ -207,6 +208,10 @@ pub right_outwards : (b : Bool) (t : Tetrahedron Position) → PointOutwards b t
 right_outwards true t h = Order.nonnegative_from fractions h
 right_outwards false t h = Order.nonnegative_same fractions (ring fraction_ring (determinant t ∷ []) (opposite (var 0)) (number 0 :- var 0) refl) h
 
+pub outwards_right : (b : Bool) (t : Tetrahedron Position) → IsRight b t → PointOutwards b t
+outwards_right true t n = Order.nought-≼ fractions n
+outwards_right false t n = Order.nonnegative_same fractions (ring fraction_ring (determinant t ∷ []) (number 0 :- var 0) (opposite (var 0)) refl) n
+
 pub magnitude_signed : (b : Bool) (x : Fraction) → sign (with_sign b x) ≢ below → magnitude x ≡ with_sign b x
 unfolding magnitude
 magnitude_signed true x n = by_sign (sign x) refl
@@ -231,23 +236,21 @@ part_right b t w p up e n = Order.nonnegative_same fractions (ap (with_sign b) e
 both_right : (b : Bool) (t : Fraction) (w p q : Tetrahedron Position) → IsInside t → AreParts t w p q → IsRight b w → IsRight b p × IsRight b q
 both_right b t w p q i e n = (part_right b (one ⊖ t) w p i.1 e.0 n, part_right b t w q i.0 e.1 n)
 
-module _ (plane : Waterplane) (first last : ℤ) (outwards : Bool) where
-  abbrev corners : Corners Position
-  corners = under plane first last
-
+-- cut by a function that is linear
+module _ (d : Position → Fraction) (d_linear : Cut.IsLinear (cut_by d)) (outwards : Bool) where
   abbrev at : Position → Position → Fraction
-  at p q = crossing_parameter corners (depth_linear plane first last) p q
+  at p q = crossing_parameter (cut_by d) d_linear p q
 
-  within : (p q : Position) → are_parted corners p q ≡ true → IsInside (at p q)
-  within p q e = inside corners (depth_linear plane first last) p q e
+  within : (p q : Position) → are_parted (cut_by d) p q ≡ true → IsInside (at p q)
+  within p q e = inside (cut_by d) d_linear p q e
 
-  pub right_parts : AtEdges corners (λ t p q. IsRight outwards t → IsRight outwards p × IsRight outwards q)
+  pub right_parts : AtEdges (cut_by d) (λ t p q. IsRight outwards t → IsRight outwards p × IsRight outwards q)
   unfolding crossing
   right_parts = record {
-    ab = λ a b c d e. both_right outwards (at a b) _ _ _ (within a b e) (parts_ab (at a b) a b c d);
-    ac = λ a b c d e. both_right outwards (at a c) _ _ _ (within a c e) (parts_ac (at a c) a b c d);
-    ad = λ a b c d e. both_right outwards (at a d) _ _ _ (within a d e) (parts_ad (at a d) a b c d);
-    bc = λ a b c d e. both_right outwards (at b c) _ _ _ (within b c e) (parts_bc (at b c) a b c d);
-    bd = λ a b c d e. both_right outwards (at b d) _ _ _ (within b d e) (parts_bd (at b d) a b c d);
-    cd = λ a b c d e. both_right outwards (at c d) _ _ _ (within c d e) (parts_cd (at c d) a b c d);
+    ab = λ a b c e h. both_right outwards (at a b) _ _ _ (within a b h) (parts_ab (at a b) a b c e);
+    ac = λ a b c e h. both_right outwards (at a c) _ _ _ (within a c h) (parts_ac (at a c) a b c e);
+    ad = λ a b c e h. both_right outwards (at a e) _ _ _ (within a e h) (parts_ad (at a e) a b c e);
+    bc = λ a b c e h. both_right outwards (at b c) _ _ _ (within b c h) (parts_bc (at b c) a b c e);
+    bd = λ a b c e h. both_right outwards (at b e) _ _ _ (within b e h) (parts_bd (at b e) a b c e);
+    cd = λ a b c e h. both_right outwards (at c e) _ _ _ (within c e h) (parts_cd (at c e) a b c e);
   }

@@ -25,3 +25,15 @@ pub mod WholeHull
 pub mod ColumnMeans
 pub mod LidOfTetrahedron
 pub mod LidOfHull
+pub mod FacePieces
+pub mod SlabOfTetrahedron
+pub mod SlabOfHull
+pub mod ColumnParts
+pub mod AftParts
+pub mod PartsAlong
+pub mod RisingPieces
+pub mod DisjointSlabs
+pub mod HullCorners
+pub mod RisingHull
+pub mod DamageBox
+pub mod DryAndWet

@@ -1,37 +1,38 @@
 -- The law of the lid: the integrals over the lid of a hull are what is seen from above of faces that are balanced against its signed faces.
 use native.Mathlib.Omega.{arith}
-use mathlib.Core.Path.{◌≡◌, refl, sym, ◌∙◌, ap, ap₂}
+use mathlib.Core.Path.{◌≡◌, refl, sym, ◌∙◌, ap, ap₂, subst}
 use mathlib.Core.List.{List, [], ◌∷◌}
 use lib.IntN.{ℤ, pos}
-use Rattle.std.specs.List.{flat_map}
+use Rattle.std.specs.Prelude.{map}
+use Rattle.std.specs.List.{AllByRecursion}
 use Rattle.exact_algebra.specs.Expression.{Expression, var, unit, number, ◌:+◌, ◌:-◌, ◌:*◌, opposite}
 use Rattle.exact_algebra.proofs.Ring.{ring_from, none, given}
 use Rattle.exact_algebra.proofs.Fraction.{Fraction, one, ◌⊕◌, ◌⊗◌, inverse, negative, fraction_ring}
 use Rattle.exact_algebra.proofs.Whole.{whole, whole-add, whole-one}
 use Rattle.hull_model.specs.declared.node.Node.{Node}
-use Rattle.hull_model.specs.declared.station.Station.{Station}
-use Rattle.hull_model.specs.Body.{IsHull}
 use Rattle.hull_model.specs.Boundary.{AreBalanced}
 use Rattle.hull_model.specs.Fractions.{sum_over}
-use Rattle.hull_model.specs.Lid.{lid, lid_of, level_area, first_moment, lid_area, lid_x, lid_yy, lid_xx}
-use Rattle.hull_model.specs.SignedFaces.{signed_faces}
-use Rattle.hull_model.specs.Submerged.{first_x, last_x, submerged_body}
+use Rattle.hull_model.specs.Lid.{lid, lids, lid_of, level_area, first_moment, lid_area, lid_x, lid_yy, lid_xx}
+use Rattle.hull_model.specs.SignedFaces.{Signed, signed_tetrahedra}
+use Rattle.hull_model.specs.Submerged.{first_x, last_x, submerged_pieces}
+use Rattle.hull_model.specs.Tetrahedra.{hull_tetrahedra}
+use Rattle.hull_model.specs.TetrahedronCut.{Tetrahedron}
 use Rattle.hull_model.specs.TriangleCut.{Triangle}
 use Rattle.hull_model.specs.Waterplane.{Waterplane, Position, side_distance, upright, under}
-use Rattle.hull_model.proofs.ShareSplits.{sum_over-append}
+use Rattle.hull_model.proofs.PartSums.{sum_over-flat_map}
 use Rattle.hull_model.proofs.TriangleLaws.{N-twelve, twelve-twelfth}
 use Rattle.hull_model.proofs.WetSum.{N12}
-use Rattle.hull_polyhedron.specs.LidLaw.{LidLaw, seen_from_above}
-use Rattle.hull_polyhedron.proofs.Placed.{IsLinearFunction, area_of, six_by}
+use Rattle.hull_polyhedron.specs.CentralLaw.{PointsOutwards, solids, all_outward_faces}
+use Rattle.hull_polyhedron.specs.Columns.{triangle_at, seen_sum}
+use Rattle.hull_polyhedron.specs.LidLaw.{AreLidSums, LidLawOfSolids, LidLaw}
+use Rattle.hull_model.proofs.EdgeSplits.{IsLinearFunction}
+use Rattle.hull_polyhedron.proofs.Placed.{area_of, six_by}
 use Rattle.hull_polyhedron.proofs.SeenForm.{whole_inverse}
 use Rattle.hull_polyhedron.proofs.OneTetrahedron.{IsFlat, one_linear, one_flat, x_flat, side_flat}
 use Rattle.hull_polyhedron.proofs.LidOfTetrahedron.{lid_term, lids_by_faces, upright-side}
-use Rattle.hull_polyhedron.proofs.WholeHull.{sum_hull}
-
-sum_over-flat_map : {A B : Type 0} (f : B → Fraction) (make : A → List B) (xs : List A) → sum_over f (flat_map make xs) ≡ sum_over (λ x. sum_over f (make x)) xs
-unfolding sum_over
-sum_over-flat_map f make [] = refl
-sum_over-flat_map f make (x ∷ xs) = sum_over-append f (make x) (flat_map make xs) ∙ ap (λ s. sum_over f (make x) ⊕ s) (sum_over-flat_map f make xs)
+use Rattle.hull_polyhedron.proofs.OutwardSolids.{solids_point_outwards}
+use Rattle.hull_polyhedron.proofs.SixVolume.{solids_of_hull}
+use Rattle.hull_polyhedron.proofs.WholeHull.{sum_signed}
 
 -- ---- area and first moment as integrals of products
 three : whole (pos 3) ≡ one ⊕ one ⊕ one
@@ -57,15 +58,9 @@ moment-term t = ring_from fraction_ring (level_area t ∷ t.a.x ∷ t.b.x ∷ t.
     M : Expression
     M = var 0 :* (var 1 :+ var 2 :+ var 3)
 
-module _ (at : Fraction) (stations : List Station) where
+module _ (at : Fraction) (first last : ℤ) where
   abbrev plane : Waterplane
   plane = upright at
-
-  abbrev first : ℤ
-  first = first_x stations
-
-  abbrev last : ℤ
-  last = last_x stations
 
   negative_flat : (f : Position → Fraction) → IsFlat plane first last f → IsFlat plane first last (λ p. negative (f p))
   unfolding six_by
@@ -82,28 +77,36 @@ module _ (at : Fraction) (stations : List Station) where
       opposite_side : (p : Position) → p.y ≡ negative (side_distance plane p)
       opposite_side p = ring_from fraction_ring (p.y ∷ side_distance plane p ∷ []) ((unit, var 1, opposite (var 0)) ∷ []) (given (upright-side at first last p) none) (var 0) (opposite (var 1)) refl
 
-  module _ (hull : IsHull stations) (faces : List (Triangle Node)) (balanced : AreBalanced faces (signed_faces stations))
-      (f g : Position → Fraction) (f_linear : IsLinearFunction f) (g_linear : IsLinearFunction g) (f_flat : IsFlat plane first last f) (g_flat : IsFlat plane first last g) where
-    lid_by_faces : sum_over (lid_term f g) (lid at stations) ≡ seen_from_above at stations f g faces
-    unfolding lid
-    lid_by_faces = sum_over-flat_map (lid_term f g) (lid_of (under plane first last)) (submerged_body plane stations)
-        ∙ sum_hull plane first last f g (λ p. sum_over (lid_term f g) (lid_of (under plane first last) p)) (lids_by_faces at first last f g f_linear g_linear f_flat g_flat) stations hull faces balanced
+  module _ (ss : List Signed) (right : AllByRecursion PointsOutwards ss) (faces : List (Triangle Node)) (balanced : AreBalanced faces (all_outward_faces ss)) where
+    abbrev pieces : List (Tetrahedron Position)
+    pieces = submerged_pieces plane first last (solids ss)
 
+    abbrev seen_from_above : (Position → Fraction) → (Position → Fraction) → Fraction
+    seen_from_above f g = seen_sum plane first last f g (map triangle_at faces)
+
+    lids_seen : (f g : Position → Fraction) → IsLinearFunction f → IsLinearFunction g → IsFlat plane first last f → IsFlat plane first last g
+        → sum_over (lid_term f g) (lids (under plane first last) pieces) ≡ seen_from_above f g
+    lids_seen f g f_linear g_linear f_flat g_flat = sum_over-flat_map (lid_term f g) (lid_of (under plane first last)) pieces
+        ∙ sum_signed plane first last f g (λ p. sum_over (lid_term f g) (lid_of (under plane first last) p)) (lids_by_faces at first last f g f_linear g_linear f_flat g_flat) ss right faces balanced
+
+    lid_sums : AreLidSums at first last pieces (map triangle_at faces)
+    lid_sums = record {
+      area = (λ i. sum_over (λ t. area-term t i) (lids (under plane first last) pieces))
+          ∙ lids_seen (λ p. one) (λ p. one) (one_linear plane first last) (one_linear plane first last) (one_flat plane first last) (one_flat plane first last);
+      x = (λ i. sum_over (λ t. moment-term t i) (lids (under plane first last) pieces))
+          ∙ lids_seen (λ p. p.x) (λ p. one) (λ t p q. refl) (one_linear plane first last) (x_flat plane first last) (one_flat plane first last);
+      yy = lids_seen (λ p. p.y) (λ p. p.y) (λ t p q. refl) (λ t p q. refl) y_flat y_flat;
+      xx = lids_seen (λ p. p.x) (λ p. p.x) (λ t p q. refl) (λ t p q. refl) (x_flat plane first last) (x_flat plane first last);
+    }
+
+pub lid_law_of_solids : LidLawOfSolids
+lid_law_of_solids at first last ss right faces balanced = lid_sums at first last ss right faces balanced
+
+-- the hull's tetrahedra are such
 pub lid_law : LidLaw
-unfolding lid_area lid_x lid_yy lid_xx
-lid_law at stations hull faces balanced = record {
-  area = (λ i. sum_over (λ t. area-term t i) (lid at stations)) ∙ by_faces (λ p. one) (λ p. one) (one_linear (upright at) first last) (one_linear (upright at) first last) (one_flat (upright at) first last) (one_flat (upright at) first last);
-  x = (λ i. sum_over (λ t. moment-term t i) (lid at stations)) ∙ by_faces (λ p. p.x) (λ p. one) (λ t p q. refl) (one_linear (upright at) first last) (x_flat (upright at) first last) (one_flat (upright at) first last);
-  yy = by_faces (λ p. p.y) (λ p. p.y) (λ t p q. refl) (λ t p q. refl) (y_flat at stations) (y_flat at stations);
-  xx = by_faces (λ p. p.x) (λ p. p.x) (λ t p q. refl) (λ t p q. refl) (x_flat (upright at) first last) (x_flat (upright at) first last);
-}
+unfolding lid lid_area lid_x lid_yy lid_xx
+lid_law at stations hull faces balanced = record { area = law.area; x = law.x; yy = law.yy; xx = law.xx }
   where
-    first : ℤ
-    first = first_x stations
-
-    last : ℤ
-    last = last_x stations
-
-    by_faces : (f g : Position → Fraction) → IsLinearFunction f → IsLinearFunction g → IsFlat (upright at) first last f → IsFlat (upright at) first last g
-        → sum_over (lid_term f g) (lid at stations) ≡ seen_from_above at stations f g faces
-    by_faces f g = lid_by_faces at stations hull faces balanced f g
+    law : AreLidSums at (first_x stations) (last_x stations) (submerged_pieces (upright at) (first_x stations) (last_x stations) (hull_tetrahedra stations)) (map triangle_at faces)
+    law = subst (λ (ts : List (Tetrahedron Node)). AreLidSums at (first_x stations) (last_x stations) (submerged_pieces (upright at) (first_x stations) (last_x stations) ts) (map triangle_at faces))
+        (solids_of_hull stations) (lid_law_of_solids at (first_x stations) (last_x stations) (signed_tetrahedra stations) (solids_point_outwards stations hull) faces balanced)

@@ -25,7 +25,8 @@ use Rattle.hull_polyhedron.specs.CentralLaw.{faces_turned, PointOutwards}
 use Rattle.hull_polyhedron.proofs.Flux.{fluxes, area, ar, A, B, C}
 use Rattle.hull_polyhedron.proofs.Flux.{D}
 use Rattle.hull_polyhedron.proofs.Pieces.{kept_none_below, sides_none_below}
-use Rattle.hull_polyhedron.proofs.Placed.{IsLinearFunction, area_of, six_by, sum_four, vertex, flow, face_by, form_none_below, whole_face, whole_faces, whole-faces}
+use Rattle.hull_model.proofs.EdgeSplits.{IsLinearFunction}
+use Rattle.hull_polyhedron.proofs.Placed.{area_of, six_by, sum_four, vertex, flow, face_by, form_none_below, whole_face, whole_faces, whole-faces}
 use Rattle.hull_polyhedron.proofs.Determinants.{with_sign, with_sign-mul, IsRight, magnitude_signed, six_determinant}
 use Rattle.hull_polyhedron.proofs.SeenForm.{N24, whole_inverse}
 use Rattle.hull_polyhedron.proofs.PieceSums.{pieces_by_faces}

@@ -19,13 +19,14 @@ use Rattle.hull_polyhedron.specs.CentralLaw.{AreColumnSums, faces_turned, PointO
 use Rattle.hull_polyhedron.proofs.Flux.{ar, A, B, C}
 use Rattle.hull_polyhedron.proofs.Flux.{D}
 use Rattle.hull_polyhedron.proofs.Pieces.{kept_none_below}
-use Rattle.hull_polyhedron.proofs.Placed.{IsLinearFunction, side_linear, height_linear, sum_four, six_by, flow, flow_wet}
+use Rattle.hull_model.proofs.EdgeSplits.{IsLinearFunction}
+use Rattle.hull_polyhedron.proofs.Placed.{side_linear, height_linear, sum_four, six_by, flow, flow_wet}
 use Rattle.hull_polyhedron.proofs.Determinants.{with_sign, with_sign-mul, IsRight, magnitude_right, six_depth, six_determinant}
 use Rattle.hull_polyhedron.proofs.SeenForm.{N24, whole_inverse, column_sum-seen}
 use Rattle.hull_polyhedron.proofs.PieceSums.{pieces_by_faces}
 
 -- ---- a twenty-fourth
-whole_four : whole (pos 4) ≡ one ⊕ one ⊕ one ⊕ one
+pub whole_four : whole (pos 4) ≡ one ⊕ one ⊕ one ⊕ one
 whole_four = whole-add (pos 3) (pos 1) ∙ ap₂ ◌⊕◌ (whole-add (pos 2) (pos 1) ∙ ap₂ ◌⊕◌ (whole-add (pos 1) (pos 1) ∙ ap₂ ◌⊕◌ whole-one whole-one) whole-one) whole-one
 
 pub integral-term : (g : Position → Fraction) (p : Tetrahedron Position) → (volume_of p ⊗ mean_of g p) ⊗ N24 ≡ magnitude (determinant p) ⊗ sum_four g p
@@ -52,7 +53,7 @@ module _ (plane : Waterplane) (first last : ℤ) where
 
   -- f at a position is the mean of g along the column over it: at a tetrahedron of which no corner lies above the waterplane, the closed
   -- forms by f add up to the integral of g
-  abbrev IsMeanAlong : (g f : Position → Fraction) → Type 0
+  abbrev pub IsMeanAlong : (g f : Position → Fraction) → Type 0
   IsMeanAlong g f = (t : Tetrahedron Position) → six h t ⊗ sum_four f t ⊕ six f t ⊗ sum_four h t ≡ six h t ⊗ sum_four g t
 
   module _ (g f : Position → Fraction) (f_linear : IsLinearFunction f) (mean_along : IsMeanAlong g f)
@@ -83,7 +84,7 @@ module _ (plane : Waterplane) (first last : ℤ) where
   IsFlat f = (t : Tetrahedron Position) → six_by plane first last f t ≡ nought
 
   -- so it is its own mean along the column
-  flat_along : (f : Position → Fraction) → IsFlat f → IsMeanAlong f f
+  pub flat_along : (f : Position → Fraction) → IsFlat f → IsMeanAlong f f
   flat_along f flat t = ring_from fraction_ring (six h t ∷ six f t ∷ sum_four h t ∷ sum_four f t ∷ []) ((var 2, var 1, number 0) ∷ []) (given (flat t) none) (var 0 :* var 3 :+ var 1 :* var 2) (var 0 :* var 3) refl
 
   pub one_flat : IsFlat (λ p. one)

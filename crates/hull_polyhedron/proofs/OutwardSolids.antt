@@ -5,8 +5,6 @@ use Rattle.std.specs.List.{AllByRecursion}
 use Rattle.exact_algebra.proofs.Fraction.{fractions}
 use Rattle.exact_algebra.proofs.Whole.{whole-nought, whole-≼}
 use Rattle.exact_algebra.proofs.Order as Order
-use Rattle.hull_model.specs.declared.station.Station.{Station}
-use Rattle.hull_model.specs.Body.{IsHull}
 use Rattle.hull_model.specs.TetrahedronCut.{with_corners}
 use Rattle.hull_model.specs.Tetrahedra.{turned_six}
 use Rattle.hull_model.specs.SignedFaces.{Signed, signed_tetrahedra}
@@ -14,10 +12,8 @@ use Rattle.hull_model.specs.Waterplane.{position_of}
 use Rattle.hull_polyhedron.proofs.Solids.{with_sign}
 use Rattle.hull_polyhedron.proofs.SixVolume.{IsRight, all_right}
 use Rattle.hull_polyhedron.proofs.Uncut.{whole_determinant}
-use Rattle.hull_polyhedron.specs.CentralLaw.{PointOutwards}
-
-abbrev pub PointsOutwards : Signed → Type 0
-PointsOutwards s = PointOutwards s.outwards (with_corners position_of s.solid)
+use Rattle.hull_polyhedron.specs.CentralLaw.{PointOutwards, PointsOutwards}
+use Rattle.hull_polyhedron.specs.Signs.{SignsAreRight}
 
 right_points : (s : Signed) → IsRight s → PointsOutwards s
 right_points s right = go s.outwards right
@@ -33,5 +29,5 @@ all_points : (ss : List Signed) → AllByRecursion IsRight ss → AllByRecursion
 all_points [] right = tt
 all_points (s ∷ ss) right = (right_points s right.0, all_points ss right.1)
 
-pub solids_point_outwards : (stations : List Station) → IsHull stations → AllByRecursion PointsOutwards (signed_tetrahedra stations)
+pub solids_point_outwards : SignsAreRight
 solids_point_outwards stations hull = all_points (signed_tetrahedra stations) (all_right stations hull.each hull.places_rise)

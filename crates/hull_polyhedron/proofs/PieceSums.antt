@@ -12,10 +12,11 @@ use Rattle.hull_model.specs.TriangleCut.{Corners}
 use Rattle.hull_model.specs.TetrahedronCut.{Tetrahedron, is_kept, kept_pieces}
 use Rattle.hull_model.specs.Waterplane.{Waterplane, Position, under}
 use Rattle.hull_model.proofs.TetrahedronRounds.{depth_linear}
-use Rattle.hull_polyhedron.specs.Columns.{seen_sum}
+use Rattle.hull_polyhedron.specs.Columns.{depth, seen_sum}
 use Rattle.hull_polyhedron.specs.CentralLaw.{faces_turned, PointOutwards}
 use Rattle.hull_polyhedron.proofs.Pieces.{all_kept, sum_kept}
-use Rattle.hull_polyhedron.proofs.Placed.{IsLinearFunction, flow, flow_splits, flow_dry}
+use Rattle.hull_model.proofs.EdgeSplits.{IsLinearFunction}
+use Rattle.hull_polyhedron.proofs.Placed.{flow, flow_splits, flow_dry}
 use Rattle.hull_polyhedron.proofs.Determinants.{with_sign, IsRight, right_outwards, right_parts}
 use Rattle.hull_polyhedron.proofs.SeenForm.{N24, cancel_24, turned-flow}
 
@@ -50,6 +51,6 @@ module _ (plane : Waterplane) (first last : ℤ) where
 
       pub pieces_by_faces : (t : Tetrahedron Position) → PointOutwards b t → sum_over term (kept_pieces corners t) ≡ seen_sum plane first last f g (faces_turned b t)
       pieces_by_faces t out = cancel_24 (
-          sum_terms (kept_pieces corners t) (all_kept corners (IsRight b) (right_parts plane first last b) t (right_outwards b t out))
+          sum_terms (kept_pieces corners t) (all_kept corners (IsRight b) (right_parts (depth plane first last) (depth_linear plane first last) b) t (right_outwards b t out))
           ∙ ap (with_sign b) (sum_kept corners (depth_linear plane first last) flow_of (flow_splits plane first last f g f_linear g_linear) (flow_dry plane first last f g) t)
           ∙ sym (turned-flow plane first last f g b t))

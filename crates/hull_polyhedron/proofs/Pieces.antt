@@ -47,7 +47,7 @@ one_side level level level level pq pr ps qr qs rs = inl (grind arith, grind ari
 pub kept_none_below : (p q r s : Sign) → is_kept_by p q r s ≡ true → NoneBelow p q r s
 kept_none_below p q r s e = (grind arith, grind arith, grind arith, grind arith)
 
-not_kept : (p q r s : Sign) → is_kept_by p q r s ≡ false → NoneBelow p q r s → NoneAbove p q r s
+pub not_kept : (p q r s : Sign) → is_kept_by p q r s ≡ false → NoneBelow p q r s → NoneAbove p q r s
 not_kept p q r s e n = (grind arith, grind arith, grind arith, grind arith)
 
 module _ {C : Type 0} (corners : Corners C) where
@@ -87,13 +87,13 @@ module _ {C : Type 0} (corners : Corners C) where
     at_split t = by_edges t.a t.b t.c t.d _ _ _ _ _ _ refl refl refl refl refl refl
 
   -- a tetrahedron that isn't split lies on one side
-  whole_side : (t : Tetrahedron C) → split corners t ≡ uncut → sides_none_below t ⊎ sides_none_above t
+  pub whole_side : (t : Tetrahedron C) → split corners t ≡ uncut → sides_none_below t ⊎ sides_none_above t
   whole_side t e = subst (λ (s : Split C). OfSplit (sides_none_below t ⊎ sides_none_above t) (λ p q. Unit {0}) s) e (at_split (λ t p q. Unit {0})
       (record { ab = λ a b c d e. tt; ac = λ a b c d e. tt; ad = λ a b c d e. tt; bc = λ a b c d e. tt; bd = λ a b c d e. tt; cd = λ a b c d e. tt }) t)
 
   -- what holds of both parts of a split where it holds of the whole, holds of all pieces
   module _ (Q : Tetrahedron C → Type 0) (at : AtEdges (λ t p q. Q t → Q p × Q q)) where
-    all_pieces : (k : ℕ) (t : Tetrahedron C) → Q t → AllByRecursion Q (pieces corners k t)
+    pub all_pieces : (k : ℕ) (t : Tetrahedron C) → Q t → AllByRecursion Q (pieces corners k t)
     unfolding pieces
     all_pieces zero t h = (h, tt)
     all_pieces (suc k) t h = go (split corners t) (at_split (λ t p q. Q t → Q p × Q q) at t) (all_pieces k)
@@ -120,9 +120,9 @@ module _ {C : Type 0} (corners : Corners C) where
     unfolding kept_pieces
     all_kept t h = all_filtered (pieces corners 4 t) (all_pieces 4 t h)
 
-  -- what adds up at each split, and is nought where no corner is above, is its sum over the kept pieces
-  module _ (linear : Cut.IsLinear corners) (g : Tetrahedron C → Fraction) (at : AtEdges (λ t p q. g t ≡ g p ⊕ g q)) (dry : (t : Tetrahedron C) → sides_none_above t → g t ≡ nought) where
-    sum_pieces : (k : ℕ) (t : Tetrahedron C) → sum_over g (pieces corners k t) ≡ g t
+  -- what adds up at each split is its sum over the pieces
+  module _ (g : Tetrahedron C → Fraction) (at : AtEdges (λ t p q. g t ≡ g p ⊕ g q)) where
+    pub sum_pieces : (k : ℕ) (t : Tetrahedron C) → sum_over g (pieces corners k t) ≡ g t
     unfolding pieces
     sum_pieces zero t = sum_over-one g t
     sum_pieces (suc k) t = go (split corners t) (at_split (λ t p q. g t ≡ g p ⊕ g q) at t) (sum_pieces k)
@@ -132,6 +132,8 @@ module _ {C : Type 0} (corners : Corners C) where
         go uncut x f = sum_over-one g t
         go (parts p q) x f = sum_over-append g (pieces corners k p) (pieces corners k q) ∙ ap₂ ◌⊕◌ (f p) (f q) ∙ sym x
 
+  -- where it is nought if no corner is above, it is its sum over the kept pieces
+  module _ (linear : Cut.IsLinear corners) (g : Tetrahedron C → Fraction) (at : AtEdges (λ t p q. g t ≡ g p ⊕ g q)) (dry : (t : Tetrahedron C) → sides_none_above t → g t ≡ nought) where
     dry_piece : (t : Tetrahedron C) → split corners t ≡ uncut → is_kept corners t ≡ false → g t ≡ nought
     dry_piece t e k = go (whole_side t e)
       where
@@ -152,4 +154,4 @@ module _ {C : Type 0} (corners : Corners C) where
 
     pub sum_kept : (t : Tetrahedron C) → sum_over g (kept_pieces corners t) ≡ g t
     unfolding kept_pieces
-    sum_kept t = sum_filtered (pieces corners 4 t) (four_rounds_settle corners linear t) ∙ sum_pieces 4 t
+    sum_kept t = sum_filtered (pieces corners 4 t) (four_rounds_settle corners linear t) ∙ sum_pieces g at 4 t

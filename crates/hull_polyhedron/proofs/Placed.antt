@@ -16,10 +16,10 @@ use Rattle.hull_model.specs.Fractions.{interpolated}
 use Rattle.hull_model.specs.TriangleCut.{Corners, crossing}
 use Rattle.hull_model.specs.TetrahedronCut.{Tetrahedron}
 use Rattle.hull_model.specs.Waterplane.{Waterplane, Position, height, side_distance, under}
+use Rattle.hull_model.proofs.EdgeSplits.{IsLinearFunction}
 use Rattle.hull_model.proofs.TetrahedronRounds.{depth_linear}
 use Rattle.hull_polyhedron.specs.Columns.{depth}
-use Rattle.hull_polyhedron.proofs.Flux.{Vertex, between, form, area, fluxes, ar, A, B, C, split_ab, split_ac, split_ad, split_bc, split_bd, split_cd}
-use Rattle.hull_polyhedron.proofs.Flux.{D}
+use Rattle.hull_polyhedron.proofs.Flux.{Vertex, between, form, area, fluxes, ar, A, B, C, D, split_ab, split_ac, split_ad, split_bc, split_bd, split_cd}
 use Rattle.hull_polyhedron.proofs.Pieces.{AtEdges, sides_none_below, sides_none_above}
 
 -- ---- the closed form where no corner is below
@@ -65,9 +65,6 @@ form_by_depth h k l u w z x y n = form_none_below (h, u, h) (k, w, k) (l, z, l) 
         (number 0) ((var 3 :* var 0 :+ var 4 :* var 1 :+ var 5 :* var 2) :+ (var 3 :+ var 4 :+ var 5) :* (var 0 :+ var 1 :+ var 2)) refl
 
 -- ---- functions of positions that are linear
-abbrev pub IsLinearFunction : (Position → Fraction) → Type 0
-IsLinearFunction f = (t : Fraction) (p q : Position) → f (record { x = interpolated t p.x q.x; y = interpolated t p.y q.y; z = interpolated t p.z q.z }) ≡ interpolated t (f p) (f q)
-
 pub side_linear : (plane : Waterplane) → IsLinearFunction (side_distance plane)
 unfolding side_distance
 side_linear plane t p q = ring fraction_ring (t ∷ p.y ∷ p.z ∷ q.y ∷ q.z ∷ whole (pos plane.s) ∷ whole (pos plane.c) ∷ inverse (whole (pos plane.r)) ∷ [])
@@ -164,7 +161,7 @@ module _ (plane : Waterplane) (first last : ℤ) where
 
     -- ---- splits
     module _ (f_linear : IsLinearFunction f) (g_linear : IsLinearFunction g) where
-      vertex-between : (t : Fraction) (p q : Position) → between t (vertex p) (vertex q) ≡ vertex (corners.between t p q)
+      pub vertex-between : (t : Fraction) (p q : Position) → between t (vertex p) (vertex q) ≡ vertex (corners.between t p q)
       vertex-between t p q = λ i. record {
         x = interpolated t p.x q.x;
         v = sym (side_linear plane t p q) i;

@@ -1,5 +1,5 @@
 -- What is summed over the faces of a hull's tetrahedra has the same sum over faces that are balanced against them; the central law of the hull.
-use mathlib.Core.Path.{◌≡◌, refl, sym, ◌∙◌, ap, ap₂}
+use mathlib.Core.Path.{◌≡◌, refl, sym, ◌∙◌, ap, ap₂, subst}
 use mathlib.Core.List.{List, [], ◌∷◌}
 use mathlib.Core.Bool.{Bool, true, false}
 use Rattle.std.proofs.Common.{ℤ, pos, ◌-ℤ◌, ◌*ℤ◌}
@@ -11,15 +11,14 @@ use Rattle.exact_algebra.proofs.Ring.{ring_from, none, given}
 use Rattle.exact_algebra.proofs.Fraction.{Fraction, nought, one, ◌⊕◌, ◌⊗◌, ◌⊖◌, negative, inverse, fraction_ring}
 use Rattle.exact_algebra.proofs.Whole.{whole, whole-nought, whole-sub}
 use Rattle.hull_model.specs.declared.node.Node.{Node}
-use Rattle.hull_model.specs.declared.station.Station.{Station}
 use Rattle.hull_model.specs.declared.vector.Vector.{Vector}
-use Rattle.hull_model.specs.Body.{IsHull}
 use Rattle.hull_model.specs.Boundary.{no_area, AreBalanced, IsAlternating, sum_in}
+use Rattle.hull_model.specs.FaceParts.{area_y, area_z}
 use Rattle.hull_model.specs.Faces.{doubled_area}
 use Rattle.hull_model.specs.Fractions.{sum_over}
 use Rattle.hull_model.specs.TriangleCut.{Triangle}
 use Rattle.hull_model.specs.TetrahedronCut.{Tetrahedron, with_corners, kept_pieces}
-use Rattle.hull_model.specs.SignedFaces.{Signed, outward_faces, faces_by, signed_tetrahedra, signed_faces}
+use Rattle.hull_model.specs.SignedFaces.{Signed, outward_faces, faces_by, signed_tetrahedra}
 use Rattle.hull_model.specs.Tetrahedra.{hull_tetrahedra}
 use Rattle.hull_model.specs.Waterplane.{Waterplane, Position, position_of, height, side_distance, under}
 use Rattle.hull_model.specs.WetMean.{product_mean, wet_mean}
@@ -27,11 +26,11 @@ use Rattle.hull_model.specs.Submerged.{first_x, last_x, submerged_pieces, submer
 use Rattle.hull_model.proofs.Balance.{balanced_sums}
 use Rattle.hull_polyhedron.proofs.SixVolume.{solids_of_hull}
 use Rattle.hull_model.proofs.ShareSplits.{sum_over-append}
-use Rattle.hull_polyhedron.specs.Columns.{depth, middle, by_corners, area_y, area_z, seen_area, column_sum, seen_part, seen_sum, triangle_at}
-use Rattle.hull_polyhedron.specs.CentralLaw.{faces_turned, PointOutwards, CentralLaw}
+use Rattle.hull_polyhedron.specs.Columns.{depth, middle, by_corners, seen_area, column_sum, seen_part, seen_sum, triangle_at}
+use Rattle.hull_polyhedron.specs.CentralLaw.{AreColumnSums, faces_turned, PointOutwards, PointsOutwards, solids, all_outward_faces, CentralLawOfSolids, CentralLaw}
 use Rattle.hull_polyhedron.proofs.SeenForm.{seen-turned, seen-rotated, column_sum-seen}
 use Rattle.hull_polyhedron.proofs.OneTetrahedron.{are_column_sums}
-use Rattle.hull_polyhedron.proofs.OutwardSolids.{PointsOutwards, solids_point_outwards}
+use Rattle.hull_polyhedron.proofs.OutwardSolids.{solids_point_outwards}
 use Rattle.hull_polyhedron.proofs.Uncut.{whole_minor}
 
 -- ---- the area vector of a triangle of nodes
@@ -83,7 +82,7 @@ module _ (plane : Waterplane) (first last : ℤ) (f g : Position → Fraction) w
       ∙ sym (sum_over-map (seen_part plane first last f g) triangle_at others)
 
   -- ---- the faces of signed tetrahedra
-  faces_at : (b : Bool) (t : Tetrahedron Node) → map triangle_at (faces_by b t) ≡ faces_turned b (with_corners position_of t)
+  pub faces_at : (b : Bool) (t : Tetrahedron Node) → map triangle_at (faces_by b t) ≡ faces_turned b (with_corners position_of t)
   faces_at true t = refl
   faces_at false t = refl
 
@@ -102,33 +101,33 @@ module _ (plane : Waterplane) (first last : ℤ) (f g : Position → Fraction) w
         ∙ sym (sum_over-append (seen_part plane first last f g) (map triangle_at (outward_faces s)) (map triangle_at (flat_map outward_faces ss)))
         ∙ ap (seen_sum plane first last f g) (sym (map-append triangle_at (outward_faces s) (flat_map outward_faces ss)))
 
-    pub sum_hull : (stations : List Station) → IsHull stations → (faces : List (Triangle Node)) → AreBalanced faces (signed_faces stations)
-        → sum_over term (pieces_of (hull_tetrahedra stations)) ≡ seen_sum plane first last f g (map triangle_at faces)
-    sum_hull stations hull faces balanced = ap (λ ts. sum_over term (pieces_of ts)) (sym (solids_of_hull stations))
-        ∙ sum_solids (signed_tetrahedra stations) (solids_point_outwards stations hull)
-        ∙ sym (balanced_parts faces (signed_faces stations) balanced)
+    pub sum_signed : (ss : List Signed) → AllByRecursion PointsOutwards ss → (faces : List (Triangle Node)) → AreBalanced faces (all_outward_faces ss)
+        → sum_over term (pieces_of (solids ss)) ≡ seen_sum plane first last f g (map triangle_at faces)
+    sum_signed ss right faces balanced = sum_solids ss right ∙ sym (balanced_parts faces (all_outward_faces ss) balanced)
 
 -- ---- columns
 module _ (plane : Waterplane) (first last : ℤ) (f : Position → Fraction) (term : Tetrahedron Position → Fraction)
     (law : (b : Bool) (t : Tetrahedron Position) → PointOutwards b t → sum_over term (kept_pieces (under plane first last) t) ≡ column_sum plane first last f (faces_turned b t)) where
-  sum_columns : (stations : List Station) → IsHull stations → (faces : List (Triangle Node)) → AreBalanced faces (signed_faces stations)
-      → sum_over term (submerged_pieces plane first last (hull_tetrahedra stations)) ≡ column_sum plane first last f (map triangle_at faces)
-  sum_columns stations hull faces balanced =
-      sum_hull plane first last f (depth plane first last) term (λ b t out. law b t out ∙ column_sum-seen plane first last f (faces_turned b t)) stations hull faces balanced
+  sum_columns : (ss : List Signed) → AllByRecursion PointsOutwards ss → (faces : List (Triangle Node)) → AreBalanced faces (all_outward_faces ss)
+      → sum_over term (submerged_pieces plane first last (solids ss)) ≡ column_sum plane first last f (map triangle_at faces)
+  sum_columns ss right faces balanced =
+      sum_signed plane first last f (depth plane first last) term (λ b t out. law b t out ∙ column_sum-seen plane first last f (faces_turned b t)) ss right faces balanced
       ∙ sym (column_sum-seen plane first last f (map triangle_at faces))
 
 -- at every waterplane
+pub solids_law : CentralLawOfSolids
+solids_law plane first last ss right faces balanced = record {
+  volume = sum_columns plane first last (λ p. one) volume_of (λ b t out. (are_column_sums plane first last b t out).volume) ss right faces balanced;
+  mx = sum_columns plane first last (λ p. p.x) (λ p. volume_of p ⊗ mean_of (λ p. p.x) p) (λ b t out. (are_column_sums plane first last b t out).mx) ss right faces balanced;
+  mv = sum_columns plane first last (side_distance plane) (λ p. volume_of p ⊗ mean_of (side_distance plane) p) (λ b t out. (are_column_sums plane first last b t out).mv) ss right faces balanced;
+  mu = sum_columns plane first last (middle plane first last) (λ p. volume_of p ⊗ mean_of (height plane) p) (λ b t out. (are_column_sums plane first last b t out).mu) ss right faces balanced;
+}
+
+-- the hull's tetrahedra are such
 pub central_law : CentralLaw
 unfolding submerged_volume mx mv mu
-central_law plane stations hull faces balanced = record {
-  volume = sum_columns plane first last (λ p. one) volume_of (λ b t out. (are_column_sums plane first last b t out).volume) stations hull faces balanced;
-  mx = sum_columns plane first last (λ p. p.x) (λ p. volume_of p ⊗ mean_of (λ p. p.x) p) (λ b t out. (are_column_sums plane first last b t out).mx) stations hull faces balanced;
-  mv = sum_columns plane first last (side_distance plane) (λ p. volume_of p ⊗ mean_of (side_distance plane) p) (λ b t out. (are_column_sums plane first last b t out).mv) stations hull faces balanced;
-  mu = sum_columns plane first last (middle plane first last) (λ p. volume_of p ⊗ mean_of (height plane) p) (λ b t out. (are_column_sums plane first last b t out).mu) stations hull faces balanced;
-}
+central_law plane stations hull faces balanced = record { volume = law.volume; mx = law.mx; mv = law.mv; mu = law.mu }
   where
-    first : ℤ
-    first = first_x stations
-
-    last : ℤ
-    last = last_x stations
+    law : AreColumnSums plane (first_x stations) (last_x stations) (submerged_pieces plane (first_x stations) (last_x stations) (hull_tetrahedra stations)) (map triangle_at faces)
+    law = subst (λ (ts : List (Tetrahedron Node)). AreColumnSums plane (first_x stations) (last_x stations) (submerged_pieces plane (first_x stations) (last_x stations) ts) (map triangle_at faces))
+        (solids_of_hull stations) (solids_law plane (first_x stations) (last_x stations) (signed_tetrahedra stations) (solids_point_outwards stations hull) faces balanced)

@@ -1,5 +1,6 @@
 -- The central law: volumes and integrals under a waterplane are column sums over the faces around what is submerged.
 use Rattle.std.specs.Prelude.{◌≡◌, Bool, true, false, ℤ, List, map}
+use Rattle.std.specs.List.{flat_map, AllByRecursion}
 use Rattle.exact_algebra.proofs.Fraction.{nought, one, ◌≼◌}
 use Rattle.hull_model.specs.declared.node.Node.{Node}
 use Rattle.hull_model.specs.declared.station.Station.{Station}
@@ -7,10 +8,10 @@ use Rattle.hull_model.specs.Body.{IsHull}
 use Rattle.hull_model.specs.Boundary.{AreBalanced}
 use Rattle.hull_model.specs.Fractions.{sum_over}
 use Rattle.hull_model.specs.TriangleCut.{Triangle}
-use Rattle.hull_model.specs.TetrahedronCut.{Tetrahedron, kept_pieces}
-use Rattle.hull_model.specs.SignedFaces.{turned, faces_in_order, signed_faces}
-use Rattle.hull_model.specs.Waterplane.{Waterplane, Position, height, side_distance, under}
-use Rattle.hull_model.specs.Submerged.{determinant, volume_of, integral, first_x, last_x, submerged_volume, mx, mv, mu}
+use Rattle.hull_model.specs.TetrahedronCut.{Tetrahedron, with_corners, kept_pieces}
+use Rattle.hull_model.specs.SignedFaces.{Signed, turned, faces_in_order, outward_faces, signed_faces}
+use Rattle.hull_model.specs.Waterplane.{Waterplane, Position, position_of, height, side_distance, under}
+use Rattle.hull_model.specs.Submerged.{determinant, volume_of, integral, first_x, last_x, submerged_pieces, submerged_volume, mx, mv, mu}
 use Rattle.hull_polyhedron.specs.Columns.{triangle_at, middle, column_sum}
 
 -- volume and integrals over pieces are column sums over faces
@@ -30,10 +31,26 @@ abbrev pub PointOutwards : Bool → Tetrahedron Position → Type 0
 PointOutwards true t = nought ≼ determinant t
 PointOutwards false t = determinant t ≼ nought
 
+-- the faces of a signed tetrahedron point out of it, or its volume is 0
+abbrev pub PointsOutwards : Signed → Type 0
+PointsOutwards s = PointOutwards s.outwards (with_corners position_of s.solid)
+
+-- signed tetrahedra without their signs, and their outward faces
+abbrev pub solids : List Signed → List (Tetrahedron Node)
+solids ss = map (λ s. s.solid) ss
+
+abbrev pub all_outward_faces : List Signed → List (Triangle Node)
+all_outward_faces ss = flat_map outward_faces ss
+
 -- at every waterplane, the integrals over the kept pieces of a tetrahedron are column sums over its outward faces
 abbrev pub CentralLawOfTetrahedra : Type 0
 CentralLawOfTetrahedra = (plane : Waterplane) (first last : ℤ) (outwards : Bool) (t : Tetrahedron Position) → PointOutwards outwards t
     → AreColumnSums plane first last (kept_pieces (under plane first last) t) (faces_turned outwards t)
+
+-- the same of any signed tetrahedra, over all faces that are balanced against their outward faces
+abbrev pub CentralLawOfSolids : Type 0
+CentralLawOfSolids = (plane : Waterplane) (first last : ℤ) (ss : List Signed) → AllByRecursion PointsOutwards ss → (faces : List (Triangle Node)) → AreBalanced faces (all_outward_faces ss)
+    → AreColumnSums plane first last (submerged_pieces plane first last (solids ss)) (map triangle_at faces)
 
 -- the submerged volume of a hull and its integrals are column sums over these faces
 pub record IsSummedByColumns (plane : Waterplane) (stations : List Station) (faces : List (Triangle Node)) : Type 0 where

@@ -4,6 +4,7 @@ use Rattle.exact_algebra.proofs.Fraction.{Fraction, ◌⊕◌, ◌⊗◌, ◌⊖
 use Rattle.exact_algebra.proofs.Whole.{whole}
 use Rattle.hull_model.specs.declared.node.Node.{Node}
 use Rattle.hull_model.specs.Fractions.{sum_over}
+use Rattle.hull_model.specs.FaceParts.{area_y, area_z}
 use Rattle.hull_model.specs.TriangleCut.{Triangle, triangle}
 use Rattle.hull_model.specs.Waterplane.{Waterplane, Position, position_of, height, level_at}
 use Rattle.hull_model.specs.WetMean.{Place, product_mean, wet_mean}
@@ -11,13 +12,6 @@ use Rattle.hull_model.specs.WetMean.{Place, product_mean, wet_mean}
 -- a triangle of nodes among the positions
 abbrev pub triangle_at : Triangle Node → Triangle Position
 triangle_at t = triangle (position_of t.a) (position_of t.b) (position_of t.c)
-
--- twice the area of a triangle seen along y, and along z, by the turn of its corners
-abbrev pub area_y : Triangle Position → Fraction
-area_y t = (t.b.z ⊖ t.a.z) ⊗ (t.c.x ⊖ t.a.x) ⊖ (t.b.x ⊖ t.a.x) ⊗ (t.c.z ⊖ t.a.z)
-
-abbrev pub area_z : Triangle Position → Fraction
-area_z t = (t.b.x ⊖ t.a.x) ⊗ (t.c.y ⊖ t.a.y) ⊖ (t.b.y ⊖ t.a.y) ⊗ (t.c.x ⊖ t.a.x)
 
 -- the linear function over a triangle with these values at its corners
 abbrev pub by_corners : Fraction → Fraction → Fraction → Place → Fraction

@@ -6,4 +6,8 @@ pub mod Between
 pub mod Columns
 pub mod ColumnMeans
 pub mod CentralLaw
+pub mod Signs
 pub mod LidLaw
+pub mod SlabLaw
+pub mod RisingLaw
+pub mod DamageBox

@@ -1,4 +1,4 @@
--- The triangles that the boundary is listed from, before those of no area are left out.
+-- A model of the private functions of `boundary`: the triangles that the boundary is listed from, before those of no area are left out.
 use Rattle.std.specs.Prelude.{Bool, true, false, not, ◌&&◌, ◌||◌, if◌then◌else◌, pos, List, [], ◌∷◌, ◌++◌, map, filter}
 use Rattle.std.specs.Ordering.{int_eq}
 use Rattle.std.specs.List.{flat_map}

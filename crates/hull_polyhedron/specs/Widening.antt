@@ -1,4 +1,4 @@
--- An extent widened by one point after another.
+-- A model of the private type `Extent`: an extent that is widened by one point after another.
 use Rattle.std.specs.Prelude.{List, [], ◌∷◌}
 use Rattle.std.specs.Int.{int_min, int_max}
 use Rattle.hull_model.specs.declared.point.Point.{Point}

@@ -13,7 +13,7 @@ ghost use Rattle.hull_model.specs.Fractions.{sum_over};
 ghost use Rattle.hull_model.specs.TetrahedronCut.{with_corners};
 ghost use Rattle.hull_model.specs.Waterplane.{position_of};
 ghost use Rattle.hull_model.specs.Submerged.{first_x, last_x, volume_of};
-ghost use Rattle.hull_polyhedron.specs.Between.{AreEnds, LieBetween};
+ghost use Rattle.hull_polyhedron.specs.Between.{AreEnds, AreHeights, LieBetween, IsReach, LieInside};
 ghost use Rattle.hull_polyhedron.specs.Extent.{IsLeast, IsGreatest};
 ghost use Rattle.hull_polyhedron.specs.FacesOf.{AreFacesOf};
 
@@ -42,6 +42,9 @@ fn assembled(list: FaceList, first_x: i64, last_x: i64, extent: Extent) -> Faces
     requires few { length list < 2 ^ 14 }
     requires ends { AreEnds first_x last_x }
     requires between { LieBetween first_x last_x list }
+    requires heights { AreHeights extent.low_z extent.high_z }
+    requires reach { IsReach extent.half_breadth extent.high_z }
+    requires inside { LieInside extent.half_breadth extent.high_z list }
     ensures list { result.list ≡ list }
     ensures first_x { result.first_x ≡ first_x }
     ensures last_x { result.last_x ≡ last_x }
@@ -87,8 +90,9 @@ fn extent_of(stations: &[Station]) -> Extent
     Extent::at(&lowest).with_stations(stations)
 }
 
-/// Six times the volume of the hull in mm³.
+/// Six times the volume of the hull in mm³, below 2^78.
 pub fn six_volume(faces: &Faces) -> i128
+    ensures size { MagnitudeBelow 78 result }
     ensures tetrahedra { (stations : List Station) → IsHull stations → AreFacesOf stations faces.now → result ≡ sum_of (λ t. pos (six_times t)) (hull_tetrahedra stations) }
     ensures uncut { (stations : List Station) → IsHull stations → AreFacesOf stations faces.now → whole result ≡ whole (pos 6) ⊗ sum_over volume_of (map (with_corners position_of) (hull_tetrahedra stations)) }
 {
@@ -98,7 +102,8 @@ pub fn six_volume(faces: &Faces) -> i128
 fn sum_of_determinants(faces: &[Face]) -> i128
     requires limits { AllByRecursion IsFace faces.now }
     requires few { length faces.now < 2 ^ 14 }
-    ensures { result ≡ sum_of determinant (map triangle_of faces.now) }
+    ensures sum { result ≡ sum_of determinant (map triangle_of faces.now) }
+    ensures size { MagnitudeBelow 78 result }
 {
     let mut sum = 0;
     let mut rest = faces;

@@ -3,7 +3,7 @@ ghost use Rattle.std.specs.Prelude.{◌≡◌, ◌<◌, ◌^◌, length};
 ghost use Rattle.std.specs.List.{AllByRecursion};
 ghost use Rattle.std.proofs.Props.{props};
 ghost use Rattle.hull_model.specs.Faces.{IsFace};
-ghost use Rattle.hull_polyhedron.specs.Between.{AreEnds, LieBetween};
+ghost use Rattle.hull_polyhedron.specs.Between.{AreEnds, AreHeights, LieBetween, IsReach, LieInside};
 
 use crate::FaceList;
 use hull_model::Face;
@@ -12,7 +12,8 @@ use hull_model::Face;
 /// between what the hull lies.
 ///
 /// Faces of no area are left out. There are fewer than 16384. Every corner lies from the first station to
-/// the last, both ends included.
+/// the last, both ends included, no farther from the centreplane than the half-breadth, not below the base,
+/// and no higher than `high_z`.
 #[derive(Debug, Drop)]
 pub struct Faces {
     pub(crate) list: FaceList,
@@ -24,6 +25,9 @@ pub struct Faces {
     ghost few: { length list < 2 ^ 14 },
     ghost ends: { AreEnds first_x last_x },
     ghost between: { LieBetween first_x last_x list } by { Prim.hlevel props },
+    ghost heights: { AreHeights low_z high_z },
+    ghost reach: { IsReach half_breadth high_z },
+    ghost inside: { LieInside half_breadth high_z list } by { Prim.hlevel props },
 }
 
 impl Faces {
@@ -33,6 +37,7 @@ impl Faces {
         ensures limits { AllByRecursion IsFace self.now.list }
         ensures few { length self.now.list < 2 ^ 14 }
         ensures between { LieBetween self.now.first_x self.now.last_x self.now.list }
+        ensures inside { LieInside self.now.half_breadth self.now.high_z self.now.list }
     {
         self.list.as_slice()
     }
@@ -53,23 +58,26 @@ impl Faces {
         self.last_x
     }
 
-    /// The least height of a point, in mm.
+    /// The least height of a point, in mm, from 0 to `high_z`.
     pub fn low_z(&self) -> i64
-        ensures { result ≡ self.now.low_z }
+        ensures same { result ≡ self.now.low_z }
+        ensures heights { AreHeights self.now.low_z self.now.high_z }
     {
         self.low_z
     }
 
-    /// The greatest height of a point, in mm.
+    /// The greatest height of a point, in mm, from 0 to 65535.
     pub fn high_z(&self) -> i64
-        ensures { result ≡ self.now.high_z }
+        ensures same { result ≡ self.now.high_z }
+        ensures reach { IsReach self.now.half_breadth self.now.high_z }
     {
         self.high_z
     }
 
-    /// The greatest half-breadth of a point, in mm.
+    /// The greatest half-breadth of a point, in mm, from 1 to 65535.
     pub fn half_breadth(&self) -> i64
-        ensures { result ≡ self.now.half_breadth }
+        ensures same { result ≡ self.now.half_breadth }
+        ensures reach { IsReach self.now.half_breadth self.now.high_z }
     {
         self.half_breadth
     }

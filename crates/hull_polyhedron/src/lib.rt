@@ -14,6 +14,8 @@ pub use calls::{faces_of, six_volume};
 pub use face_list::FaceList;
 pub use faces::Faces;
 pub use laws::{
-    columns_are_known_by_means, hulls_are_summed_by_columns, lids_are_summed_by_faces,
-    tetrahedra_are_summed_by_columns,
+    columns_are_known_by_means, corners_decide_the_sides, hulls_are_summed_by_columns,
+    lids_are_summed_by_faces, signed_faces_point_outwards, slabs_are_summed_by_columns,
+    solids_are_summed_by_faces, tetrahedra_are_summed_by_columns,
+    what_is_left_rises_with_the_levels,
 };

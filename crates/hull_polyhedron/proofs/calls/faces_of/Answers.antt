@@ -13,7 +13,7 @@ use Rattle.hull_polyhedron.specs.Extent.{IsLeast, IsGreatest}
 use Rattle.hull_polyhedron.specs.FacesOf.{AreFacesOf}
 use Rattle.hull_polyhedron.proofs.Lengths.{few_faces}
 use Rattle.hull_polyhedron.proofs.Listing.{kept_boundary}
-use Rattle.hull_polyhedron.proofs.Between.{ends_at, between_at}
+use Rattle.hull_polyhedron.proofs.Between.{ends_at, between_at, heights_at, inside_at, reach_at}
 use Rattle.hull_polyhedron.proofs.calls.faces_of.Goals as goal
 
 pub assembled-requires-clause-few : goal.assembled-requires-clause-few
@@ -32,6 +32,18 @@ assembled-requires-clause-between c =
     let first-fits : SFits w64 c.first_x_of.result = record { sfits = c.first_x_of.type_inv } in
     let last-fits : SFits w64 c.last_x_of.result = record { sfits = c.last_x_of.type_inv } in
     simp to_z-of_z (between_at c.stations-stations.result.now (subst IsHull (sym c.stations-stations.ensures.same) c.stations-stations.ensures.kept) c.first_x_of.ensures c.last_x_of.ensures c.in_ok-list.ensures)
+
+pub assembled-requires-clause-heights : goal.assembled-requires-clause-heights
+assembled-requires-clause-heights c = heights_at c.extent_of-extent.result.low_z c.extent_of-extent.result.high_z c.stations-stations.result.now
+    (subst IsHull (sym c.stations-stations.ensures.same) c.stations-stations.ensures.kept) c.extent_of-extent.ensures.low_z c.extent_of-extent.ensures.high_z
+
+pub assembled-requires-clause-reach : goal.assembled-requires-clause-reach
+assembled-requires-clause-reach c = reach_at c.extent_of-extent.result.half_breadth c.extent_of-extent.result.high_z c.stations-stations.result.now
+    (subst IsHull (sym c.stations-stations.ensures.same) c.stations-stations.ensures.kept) c.extent_of-extent.ensures.half_breadth c.extent_of-extent.ensures.high_z
+
+pub assembled-requires-clause-inside : goal.assembled-requires-clause-inside
+assembled-requires-clause-inside c = inside_at c.extent_of-extent.result.half_breadth c.extent_of-extent.result.high_z c.stations-stations.result.now
+    (subst IsHull (sym c.stations-stations.ensures.same) c.stations-stations.ensures.kept) c.extent_of-extent.ensures.half_breadth c.extent_of-extent.ensures.high_z c.in_ok-list.ensures
 
 pub returns : goal.returns
 returns c =

@@ -14,11 +14,11 @@ use Rattle.hull_polyhedron.proofs.calls.six_volume.Goals as goal
 pub returns-clause-tetrahedra : goal.returns-clause-tetrahedra
 returns-clause-tetrahedra c = λ stations hull are.
     let fits : SFits w128 c.sum_of_determinants.result = record { sfits = c.sum_of_determinants.type_inv } in
-    simp to_z-of_z (c.sum_of_determinants.ensures ∙ ap (λ (fs : List Face). sum_of determinant (map triangle_of fs)) c.list.ensures.same
+    simp to_z-of_z (c.sum_of_determinants.ensures.sum ∙ ap (λ (fs : List Face). sum_of determinant (map triangle_of fs)) c.list.ensures.same
     ∙ balanced_six (map triangle_of c.args.faces.now.list) stations hull.each hull.places_rise are.boundary.balanced)
 
 pub returns-clause-uncut : goal.returns-clause-uncut
 returns-clause-uncut c = λ stations hull are.
     let fits : SFits w128 c.sum_of_determinants.result = record { sfits = c.sum_of_determinants.type_inv } in
-    simp to_z-of_z (ap whole (c.sum_of_determinants.ensures ∙ ap (λ (fs : List Face). sum_of determinant (map triangle_of fs)) c.list.ensures.same
+    simp to_z-of_z (ap whole (c.sum_of_determinants.ensures.sum ∙ ap (λ (fs : List Face). sum_of determinant (map triangle_of fs)) c.list.ensures.same
     ∙ balanced_six (map triangle_of c.args.faces.now.list) stations hull.each hull.places_rise are.boundary.balanced) ∙ uncut_volume (hull_tetrahedra stations))
