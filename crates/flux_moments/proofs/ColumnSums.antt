@@ -1,10 +1,12 @@
 -- The sums over the columns of faces, as a loop makes them.
-use Rattle.std.proofs.Common.{◌≡◌, ◌-◌, refl, sym, ◌∙◌, ap, subst, ℕ, zero, suc, ◌+◌, ◌*◌, ◌^◌, ◌<◌, ◌≤◌, ℤ, pos, ◌+ℤ◌, unsigned_abs, List, [], ◌∷◌, ◌++◌, length, take, get_or, arith}
+use Rattle.std.proofs.Common.{◌≡◌, refl, sym, ◌∙◌, ap, subst, ℕ, zero, suc, ◌+◌, ◌*◌, ◌^◌, ◌<◌, ◌≤◌, ℤ, pos, ◌+ℤ◌, unsigned_abs, List, [], ◌∷◌, ◌++◌, length, take, get_or, arith}
 use Rattle.std.proofs.Math.Seq.{take-suc}
 use Rattle.std.proofs.lemmas.Int.{ints}
 use Rattle.std.proofs.Math.Nat.{mul-le-mul}
-use Rattle.exact_algebra.specs.Expression.{var, number, ◌:+◌, ◌:*◌}
-use Rattle.exact_algebra.proofs.Fraction.{Fraction, fraction_ring, nought, ◌⊕◌, ◌⊗◌}
+use Rattle.std.specs.List.{AllByRecursion}
+use Rattle.exact_algebra.specs.Expression.{var, number, ◌:+◌, ◌:-◌, ◌:*◌}
+use Rattle.exact_algebra.proofs.Fraction.{Fraction, fraction_ring, fractions, nought, one, ◌⊕◌, ◌⊗◌, ◌≼◌}
+use Rattle.exact_algebra.proofs.Order as Order
 use Rattle.exact_algebra.proofs.Ring.{ring}
 use Rattle.exact_algebra.proofs.Span.{ContainsFraction, contains_whole}
 use Rattle.exact_algebra.proofs.Whole.{whole, whole-nought}
@@ -13,22 +15,28 @@ use Rattle.hull_model.specs.Fractions.{sum_over}
 use Rattle.hull_model.specs.Waterplane.{Waterplane, side_distance}
 use Rattle.outward_interval.specs.Ends.{EndsBelow, AreEnds, AreLeastEnds}
 use Rattle.outward_interval.specs.Laws.{sum_contains}
+use Rattle.outward_interval.specs.Widths.{IsNarrow}
+use Rattle.outward_interval.proofs.Narrow.{narrow-sum}
 use Rattle.outward_interval.specs.declared.span.Span.{Span}
 use Rattle.hull_polyhedron.specs.Columns.{middle}
+use Rattle.flux_moments.specs.ColumnSizes.{AreColumnWidths, AreSumWidths}
 use Rattle.flux_moments.specs.Columns.{column_volume, column_integral}
-use Rattle.flux_moments.specs.Limits.{EndsAtMost, EndsLess}
+use Rattle.flux_moments.specs.Limits.{EndsAtMost}
 use Rattle.flux_moments.specs.Planes.{IsIn}
 use Rattle.flux_moments.specs.declared.plane_box.PlaneBox.{PlaneBox}
 use Rattle.flux_moments.specs.declared.wet.Wet.{Wet}
-use Rattle.flux_moments.specs.Wets.{AllFields, CanAdd, IsSum}
+use Rattle.flux_moments.specs.Wets.{CanAdd, IsSum, AreColumnEnds}
+use Rattle.flux_moments.specs.Sizes.{BoxSize, HasSize, Reaches, AreReached, spread, doubled_area, volume_part, length_part, height_part}
 use Rattle.flux_moments.proofs.ProductEnds.{floor_at_most, ceiling_at_most}
 
 sum-last : {A : Type 0} (f : A → Fraction) (xs : List A) (x : A) → sum_over f (xs ++ x ∷ []) ≡ sum_over f xs ⊕ f x
 unfolding sum_over
 sum-last f [] x = ring fraction_ring (f x ∷ []) (var 0 :+ number 0) (number 0 :+ var 0) refl
-sum-last f (y ∷ ys) x = ap (λ s. f y ⊕ s) (sum-last f ys x) ∙ ring fraction_ring (f y ∷ sum_over f ys ∷ f x ∷ []) (var 0 :+ (var 1 :+ var 2)) ((var 0 :+ var 1) :+ var 2) refl
+sum-last f (y ∷ ys) x = ap (λ s. f y ⊕ s) (sum-last f ys x) ∙ ring fraction_ring (f y ∷ sum_over f ys ∷ f x ∷ []) (var 0 :+ (var 1 :+ var 2))
+    ((var 0 :+ var 1) :+ var 2) refl
 
-sum-more : {A : Type 0} (f : A → Fraction) (xs : List A) (i : ℕ) (other : A) → i < length xs → sum_over f (take (i + 1) xs) ≡ sum_over f (take i xs) ⊕ f (get_or xs i other)
+sum-more : {A : Type 0} (f : A → Fraction) (xs : List A) (i : ℕ) (other : A) → i < length xs → sum_over f (take (i + 1) xs) ≡ sum_over f (take i xs)
+    ⊕ f (get_or xs i other)
 sum-more f xs i other h = ap (λ n. sum_over f (take n xs)) next ∙ ap (sum_over f) (take-suc xs i other h) ∙ sum-last f (take i xs) (get_or xs i other)
   where
     next : i + 1 ≡ suc i
@@ -80,42 +88,70 @@ module _ {I : Type 0} (Within : I → Type 0) (f : I → Face → Fraction) (tim
     pub sum-step : (other : Face) (r : Span 20) → ((i : I) → Within i → ContainsFraction 20 t.lo t.hi (f i (get_or faces count other) ⊗ whole (pos times)))
         → AreEnds (s.lo +ℤ t.lo) (s.hi +ℤ t.hi) r.lo r.hi → IsSumOf Within f times most faces (count + 1) r
     sum-step other r one are = record {
-      encloses = λ i within. subst (λ (x : Fraction). ContainsFraction 20 r.lo r.hi x) (joined i) (sum_contains 20 s.lo s.hi t.lo t.hi r.lo r.hi _ _ are (before.encloses i within) (one i within));
+      encloses = λ i within. subst (λ (x : Fraction). ContainsFraction 20 r.lo r.hi x) (joined i)
+          (sum_contains 20 s.lo s.hi t.lo t.hi r.lo r.hi _ _ are (before.encloses i within) (one i within));
       ends = record { low = both s.lo t.lo r.lo before.ends.low ends.low are.low; high = both s.hi t.hi r.hi before.ends.high ends.high are.high };
       seen = omega (arith, h);
     }
       where
-        joined : (i : I) → sum_over (f i) (take count faces) ⊗ whole (pos times) ⊕ f i (get_or faces count other) ⊗ whole (pos times) ≡ sum_over (f i) (take (count + 1) faces) ⊗ whole (pos times)
-        joined i = ring fraction_ring (sum_over (f i) (take count faces) ∷ f i (get_or faces count other) ∷ whole (pos times) ∷ []) (var 0 :* var 2 :+ var 1 :* var 2) ((var 0 :+ var 1) :* var 2) refl
+        joined : (i : I) → sum_over (f i) (take count faces) ⊗ whole (pos times) ⊕ f i (get_or faces count other) ⊗ whole (pos times) ≡ sum_over (f i)
+            (take (count + 1) faces) ⊗ whole (pos times)
+        joined i = ring fraction_ring (sum_over (f i) (take count faces) ∷ f i (get_or faces count other) ∷ whole (pos times) ∷ [])
+            (var 0 :* var 2 :+ var 1 :* var 2) ((var 0 :+ var 1) :* var 2) refl
             ∙ ap (λ x. x ⊗ whole (pos times)) (sym (sum-more (f i) faces count other h))
 
         both : (x y z : ℤ) → unsigned_abs x ≤ count * most → unsigned_abs y ≤ most → z ≡ x +ℤ y → unsigned_abs z ≤ (count + 1) * most
         both x y z i j e = omega (arith, ints, e, i, j)
 
   -- all faces
-  pub sum-end : (count : ℕ) (s : Span 20) → length faces ≤ count → IsSumOf Within f times most faces count s → (i : I) → Within i → ContainsFraction 20 s.lo s.hi (sum_over (f i) faces ⊗ whole (pos times))
-  sum-end count s h all i within = subst (λ (xs : List Face). ContainsFraction 20 s.lo s.hi (sum_over (f i) xs ⊗ whole (pos times))) (take-all faces count h) (all.encloses i within)
+  pub sum-end : (count : ℕ) (s : Span 20) → length faces ≤ count → IsSumOf Within f times most faces count s → (i : I) → Within i → ContainsFraction
+      20 s.lo s.hi (sum_over (f i) faces ⊗ whole (pos times))
+  sum-end count s h all i within = subst (λ (xs : List Face). ContainsFraction 20 s.lo s.hi (sum_over (f i) xs ⊗ whole (pos times)))
+      (take-all faces count h) (all.encloses i within)
 
-  pub sum-ends : (count : ℕ) (s : Span 20) → length faces < 2 ^ 14 → 0 < most → IsSumOf Within f times most faces count s → EndsLess (2 ^ 14 * most) s.lo s.hi
-  sum-ends count s few some all = record { low = under all.ends.low; high = under all.ends.high }
+  pub sum-ends : (count : ℕ) (s : Span 20) → length faces < 2 ^ 14 → IsSumOf Within f times most faces count s → EndsAtMost (16383 * most) s.lo s.hi
+  sum-ends count s few all = record { low = under all.ends.low; high = under all.ends.high }
     where
-      next : count + 1 ≤ 2 ^ 14
-      next = omega (arith, few, all.seen)
+      fewer : count ≤ 16383
+      fewer = omega (arith, few, all.seen)
 
       same : most ≤ most
       same = omega arith
 
-      fewer : (count + 1) * most ≤ 2 ^ 14 * most
-      fewer = mul-le-mul next same
+      all_of : count * most ≤ 16383 * most
+      all_of = mul-le-mul fewer same
 
-      under : {n : ℕ} → n ≤ count * most → n < 2 ^ 14 * most
-      under k = omega (arith, fewer, some, k)
+      under : {n : ℕ} → n ≤ count * most → n ≤ 16383 * most
+      under k = omega (arith, all_of, k)
 
-pub below_at_most : (bits : ℕ) {lo hi : ℤ} → EndsBelow bits lo hi → EndsAtMost (2 ^ bits) lo hi
-below_at_most bits e = record { low = under e.low; high = under e.high }
-  where
-    under : {n : ℕ} → n < 2 ^ bits → n ≤ 2 ^ bits
-    under h = omega (arith, h)
+-- ---- how wide a sum is
+pub all_at : {A : Type 0} (P : A → Type 0) (xs : List A) (i : ℕ) (other : A) → i < length xs → AllByRecursion P xs → P (get_or xs i other)
+all_at P [] i other h all = absurd (omega (arith, h))
+all_at P (x ∷ xs) zero other h all = all.0
+all_at P (x ∷ xs) (suc i) other h all = all_at P xs i other (omega (arith, h)) all.1
+
+module _ (g : Face → Fraction) (faces : List Face) where
+  pub narrow-start : (s : Span 20) → (s.lo ≡ pos 0) × (s.hi ≡ pos 0) → IsNarrow 20 (sum_over g (take 0 faces)) s.lo s.hi
+  unfolding sum_over
+  narrow-start s e = rw (e.0, e.1) (record {
+    width = Order.≼_same fractions (ring fraction_ring (whole (pos 0) ∷ whole (pos (2 ^ 20)) ∷ [])
+        (var 0 :- var 0) (number 0 :* var 1) refl);
+  })
+
+  pub narrow-step : (count : ℕ) (other : Face) (s t r : Span 20) → count < length faces → IsNarrow 20 (sum_over g (take count faces)) s.lo s.hi
+      → IsNarrow 20 (g (get_or faces count other)) t.lo t.hi
+      → AreEnds (s.lo +ℤ t.lo) (s.hi +ℤ t.hi) r.lo r.hi → IsNarrow 20 (sum_over g (take (count + 1) faces)) r.lo r.hi
+  narrow-step count other s t r h before one are = subst (λ (w : Fraction). IsNarrow 20 w r.lo r.hi) (sym (sum-more g faces count other h))
+      (narrow-sum are before one)
+
+  pub narrow-end : (count : ℕ) (s : Span 20) → length faces ≤ count → IsNarrow 20 (sum_over g (take count faces)) s.lo s.hi → IsNarrow 20
+      (sum_over g faces) s.lo s.hi
+  narrow-end count s h all = subst (λ (xs : List Face). IsNarrow 20 (sum_over g xs) s.lo s.hi) (take-all faces count h) all
+
+-- what is known of each face
+pub reached_at : (planes : PlaneBox) (faces : List Face) (b : BoxSize) (h : Fraction) (count : ℕ) (other : Face) → count < length faces → AreReached
+    planes faces b h → AllByRecursion (Reaches b h) (get_or faces count other).p
+reached_at planes faces b h count other few are = all_at (λ (f : Face). AllByRecursion (Reaches b h) f.p) faces count other few are.reached
 
 -- ---- the four sums over columns
 module _ (planes : PlaneBox) (first last : ℤ) (faces : List Face) where
@@ -123,60 +159,75 @@ module _ (planes : PlaneBox) (first last : ℤ) (faces : List Face) where
   IsColumnSum f times most count s = IsSumOf (IsIn planes) f times most faces count s
 
   pub record AreSums (count : ℕ) (sums : Wet) : Type 0 where
-    pub volume : IsColumnSum (λ plane. column_volume plane first last) 2 (2 ^ 82) count sums.volume
-    pub mx : IsColumnSum (λ plane. column_integral plane first last (λ p. p.x)) 2 (2 ^ 108) count sums.mx
-    pub mv : IsColumnSum (λ plane. column_integral plane first last (side_distance plane)) 2 (2 ^ 108) count sums.mv
-    pub mu : IsColumnSum (λ plane. column_integral plane first last (middle plane first last)) 4 (2 ^ 108) count sums.mu
+    pub volume : IsColumnSum (λ plane. column_volume plane first last) 2 (7 * 2 ^ 75) count sums.volume
+    pub mx : IsColumnSum (λ plane. column_integral plane first last (λ p. p.x)) 2 (5 * 2 ^ 97) count sums.mx
+    pub mv : IsColumnSum (λ plane. column_integral plane first last (side_distance plane)) 2 (5 * 2 ^ 95) count sums.mv
+    pub mu : IsColumnSum (λ plane. column_integral plane first last (middle plane first last)) 4 (41 * 2 ^ 95) count sums.mu
+    pub widths : (b : BoxSize) (h : Fraction) → AreReached planes faces b h → AreSumWidths (whole last) h (spread b h) (take count faces) sums
 
   pub sums-start : (s : Span 20) → (s.lo ≡ pos 0) × (s.hi ≡ pos 0) → AreSums 0 (record { volume = s; mx = s; mv = s; mu = s })
   sums-start s e = record {
-    volume = sum-start (IsIn planes) (λ plane. column_volume plane first last) 2 (2 ^ 82) faces s e;
-    mx = sum-start (IsIn planes) (λ plane. column_integral plane first last (λ p. p.x)) 2 (2 ^ 108) faces s e;
-    mv = sum-start (IsIn planes) (λ plane. column_integral plane first last (side_distance plane)) 2 (2 ^ 108) faces s e;
-    mu = sum-start (IsIn planes) (λ plane. column_integral plane first last (middle plane first last)) 4 (2 ^ 108) faces s e;
+    volume = sum-start (IsIn planes) (λ plane. column_volume plane first last) 2 (7 * 2 ^ 75) faces s e;
+    mx = sum-start (IsIn planes) (λ plane. column_integral plane first last (λ p. p.x)) 2 (5 * 2 ^ 97) faces s e;
+    mv = sum-start (IsIn planes) (λ plane. column_integral plane first last (side_distance plane)) 2 (5 * 2 ^ 95) faces s e;
+    mu = sum-start (IsIn planes) (λ plane. column_integral plane first last (middle plane first last)) 4 (41 * 2 ^ 95) faces s e;
+    widths = λ b h are. record {
+      volume = narrow-start _ faces s e;
+      mx = narrow-start _ faces s e;
+      mv = narrow-start _ faces s e;
+      mu = narrow-start _
+          faces s e;
+    };
   }
 
-  -- how far the ends of one face's columns may lie
-  abbrev pub AreColumnEnds : Wet → Type 0
-  AreColumnEnds columns = EndsAtMost (2 ^ 82) columns.volume.lo columns.volume.hi × AllFields (λ s. EndsBelow 108 s.lo s.hi) columns
-
-  module _ (count : ℕ) (sums columns : Wet) (h : count < length faces) (before : AreSums count sums) (ends : AreColumnEnds columns) where
+  module _ (count : ℕ) (sums columns : Wet) (h : count < length faces) (before : AreSums count sums) (ends : AreColumnEnds 1 columns) where
     pub sums-fit : length faces < 2 ^ 14 → CanAdd sums columns
     sums-fit few = record {
-      volume = sum-allowed (IsIn planes) _ 2 (2 ^ 82) faces count sums.volume columns.volume h before.volume ends.0 few (omega arith);
-      mx = sum-allowed (IsIn planes) _ 2 (2 ^ 108) faces count sums.mx columns.mx h before.mx (below_at_most 108 ends.1.1) few (omega arith);
-      mv = sum-allowed (IsIn planes) _ 2 (2 ^ 108) faces count sums.mv columns.mv h before.mv (below_at_most 108 ends.1.2) few (omega arith);
-      mu = sum-allowed (IsIn planes) _ 4 (2 ^ 108) faces count sums.mu columns.mu h before.mu (below_at_most 108 ends.1.3) few (omega arith);
+      volume = sum-allowed (IsIn planes) _ 2 (7 * 2 ^ 75) faces count sums.volume columns.volume h before.volume ends.volume few (omega arith);
+      mx = sum-allowed (IsIn planes) _ 2 (5 * 2 ^ 97) faces count sums.mx columns.mx h before.mx ends.mx few (omega arith);
+      mv = sum-allowed (IsIn planes) _ 2 (5 * 2 ^ 95) faces count sums.mv columns.mv h before.mv ends.mv few (omega arith);
+      mu = sum-allowed (IsIn planes) _ 4 (41 * 2 ^ 95) faces count sums.mu columns.mu h before.mu ends.mu few (omega arith);
     }
 
     pub sums-more : (other : Face) (result : Wet)
-        → ((plane : Waterplane) → IsIn planes plane → ContainsFraction 20 columns.volume.lo columns.volume.hi (column_volume plane first last (get_or faces count other) ⊗ whole (pos 2)))
-        → ((plane : Waterplane) → IsIn planes plane → ContainsFraction 20 columns.mx.lo columns.mx.hi (column_integral plane first last (λ p. p.x) (get_or faces count other) ⊗ whole (pos 2)))
-        → ((plane : Waterplane) → IsIn planes plane → ContainsFraction 20 columns.mv.lo columns.mv.hi (column_integral plane first last (side_distance plane) (get_or faces count other) ⊗ whole (pos 2)))
-        → ((plane : Waterplane) → IsIn planes plane → ContainsFraction 20 columns.mu.lo columns.mu.hi (column_integral plane first last (middle plane first last) (get_or faces count other) ⊗ whole (pos 4)))
+        → ((plane : Waterplane) → IsIn planes plane → ContainsFraction 20 columns.volume.lo columns.volume.hi
+        (column_volume plane first last (get_or faces count other) ⊗ whole (pos 2)))
+        → ((plane : Waterplane) → IsIn planes plane → ContainsFraction 20 columns.mx.lo columns.mx.hi
+        (column_integral plane first last (λ p. p.x) (get_or faces count other) ⊗ whole (pos 2)))
+        → ((plane : Waterplane) → IsIn planes plane → ContainsFraction 20 columns.mv.lo columns.mv.hi
+        (column_integral plane first last (side_distance plane) (get_or faces count other) ⊗ whole (pos 2)))
+        → ((plane : Waterplane) → IsIn planes plane → ContainsFraction 20 columns.mu.lo columns.mu.hi
+        (column_integral plane first last (middle plane first last) (get_or faces count other) ⊗ whole (pos 4)))
+        → ((b : BoxSize) (h : Fraction) → HasSize planes b → one ≼ h → AllByRecursion (Reaches b h) (get_or faces count other).p → AreColumnWidths
+        (whole last) h (spread b h) (doubled_area (get_or faces count other)) columns)
         → IsSum sums columns result → AreSums (count + 1) result
-    sums-more other result volume mx mv mu are = record {
-      volume = sum-step (IsIn planes) (λ plane. column_volume plane first last) 2 (2 ^ 82) faces count sums.volume columns.volume h before.volume ends.0 other result.volume volume are.volume;
-      mx = sum-step (IsIn planes) (λ plane. column_integral plane first last (λ p. p.x)) 2 (2 ^ 108) faces count sums.mx columns.mx h before.mx (below_at_most 108 ends.1.1) other result.mx mx are.mx;
-      mv = sum-step (IsIn planes) (λ plane. column_integral plane first last (side_distance plane)) 2 (2 ^ 108) faces count sums.mv columns.mv h before.mv (below_at_most 108 ends.1.2) other result.mv mv are.mv;
-      mu = sum-step (IsIn planes) (λ plane. column_integral plane first last (middle plane first last)) 4 (2 ^ 108) faces count sums.mu columns.mu h before.mu (below_at_most 108 ends.1.3) other result.mu mu are.mu;
+    sums-more other result volume mx mv mu widths are = record {
+      volume = sum-step (IsIn planes) (λ plane. column_volume plane first last) 2 (7 * 2 ^ 75) faces count sums.volume columns.volume h before.volume
+          ends.volume other result.volume volume are.volume;
+      mx = sum-step (IsIn planes) (λ plane. column_integral plane first last (λ p. p.x)) 2 (5 * 2 ^ 97) faces count sums.mx columns.mx h before.mx
+          ends.mx other result.mx mx are.mx;
+      mv = sum-step (IsIn planes) (λ plane. column_integral plane first last (side_distance plane)) 2 (5 * 2 ^ 95) faces count sums.mv columns.mv h
+          before.mv ends.mv other result.mv mv are.mv;
+      mu = sum-step (IsIn planes) (λ plane. column_integral plane first last (middle plane first last)) 4 (41 * 2 ^ 95) faces count sums.mu columns.mu
+          h before.mu ends.mu other result.mu mu are.mu;
+      widths = λ b reach reached. let earlier = before.widths b reach reached in let more = widths b reach reached.size reached.some
+          (reached_at planes faces b reach count other h reached) in record {
+            volume = narrow-step (λ f. volume_part (spread b reach) (doubled_area f)) faces count other sums.volume columns.volume result.volume h
+                earlier.volume more.volume are.volume;
+            mx = narrow-step (λ f. length_part (whole last) (spread b reach) (doubled_area f)) faces count other sums.mx columns.mx result.mx h earlier.mx
+                more.mx are.mx;
+            mv = narrow-step (λ f. height_part reach (spread b reach) (doubled_area f)) faces count other sums.mv columns.mv result.mv h earlier.mv more.mv are.mv;
+            mu = narrow-step (λ f. height_part reach (spread b reach) (doubled_area f)) faces count other sums.mu columns.mu result.mu h earlier.mu more.mu are.mu;
+          };
     }
 
 -- ---- the ends at last
-pub quotient_below : (bits n : ℕ) {low high lo hi : ℤ} → 2 ≤ 2 ^ bits → 2 ≤ n → EndsLess (2 ^ bits) low high → AreLeastEnds low high n lo hi → EndsBelow bits lo hi
-quotient_below bits n {low} {high} {lo} {hi} some h e are = record {
-  low = under (floor_at_most (2 ^ bits - 1) n low lo (within e.low) are.low);
-  high = under (ceiling_at_most (2 ^ bits - 1) n high hi (within e.high) are.high);
+pub quotient_at_most : (sum most n : ℕ) {low high lo hi : ℤ} → sum < most * n → EndsAtMost sum low high → AreLeastEnds low high n lo hi → EndsAtMost most lo hi
+quotient_at_most sum most n {low} {high} {lo} {hi} fits e are = record {
+  low = floor_at_most most n low lo (within e.low) are.low;
+  high =
+      ceiling_at_most most n high hi (within e.high) are.high;
 }
   where
-    same : 2 ^ bits - 1 ≤ 2 ^ bits - 1
-    same = omega arith
-
-    much : (2 ^ bits - 1) * 2 ≤ (2 ^ bits - 1) * n
-    much = mul-le-mul same h
-
-    within : {k : ℕ} → k < 2 ^ bits → k < (2 ^ bits - 1) * n
-    within i = omega (arith, i, some, much)
-
-    under : {k : ℕ} → k ≤ 2 ^ bits - 1 → k < 2 ^ bits
-    under i = omega (arith, i, some)
+    within : {k : ℕ} → k ≤ sum → k < most * n
+    within i = omega (arith, i, fits)

@@ -1,6 +1,5 @@
 -- Levels at a place between two stations: the size of what is weighed and divided, and that the quotients enclose them.
-use Rattle.std.proofs.Common.{◌≡◌, ◌∙◌, refl, sym, ap, ap₂, subst, List, [], ◌∷◌, ℕ, ◌+◌, ◌*◌, ◌<◌, ◌≤◌, ◌^◌, ℤ, pos, negsuc, neg_ℤ, ◌+ℤ◌, ◌-ℤ◌, ◌*ℤ◌, ◌≤ℤ◌, ◌<ℤ◌, unsigned_abs, arith}
-use Rattle.std.proofs.Math.Nat.{mul-le-mul_right, le_of_mul-le-mul_right}
+use Rattle.std.proofs.Common.{◌≡◌, ◌∙◌, refl, sym, ap, ap₂, List, [], ◌∷◌, ℕ, ◌+◌, ◌*◌, ◌<◌, ◌≤◌, ◌^◌, ℤ, pos, negsuc, neg_ℤ, ◌+ℤ◌, ◌-ℤ◌, ◌*ℤ◌, ◌≤ℤ◌, ◌<ℤ◌, unsigned_abs, arith}
 use Rattle.std.proofs.lemmas.Int.{ints, unsigned_abs-mul}
 use Rattle.std.specs.Int.{w64}
 use mir.Val.{SFits}
@@ -8,7 +7,7 @@ use Rattle.exact_algebra.specs.Expression.{Expression, var, unit, number, ◌:+�
 use Rattle.exact_algebra.specs.OrderedField.{above}
 use Rattle.exact_algebra.specs.Span.{IsFloor, IsCeiling}
 use Rattle.exact_algebra.proofs.Bounds as Bounds
-use Rattle.exact_algebra.proofs.Division.{floor_is_greatest, ceiling_by_floor}
+use Rattle.exact_algebra.proofs.Division.{ceiling_by_floor}
 use Rattle.exact_algebra.proofs.Fraction.{Fraction, one, ◌⊕◌, ◌⊗◌, ◌⊖◌, inverse, sign, fractions, ◌≼◌}
 use Rattle.exact_algebra.proofs.Order as Order
 use Rattle.exact_algebra.proofs.Order.{order_from, no_more, at_most, scaled, equal}
@@ -17,19 +16,17 @@ use Rattle.exact_algebra.proofs.Span.{ContainsFraction}
 use Rattle.exact_algebra.proofs.Whole.{whole, whole-add, whole-sub, whole-mul, whole-≼, positive-whole, nonnegative-whole}
 use Rattle.exact_algebra.proofs.WholeNumbers.{integers}
 use Rattle.hull_model.proofs.Magnitudes.{fits_64}
+use Rattle.flux_moments.proofs.QuotientSizes.{times_size}
 use Rattle.hull_model.specs.Body.{IsWithin}
 use Rattle.hull_model.specs.Waterplane.{Waterplane, level_at}
 use Rattle.outward_interval.specs.Kept.{IsSpan}
 use Rattle.outward_interval.specs.Ends.{AreLeastEnds}
 use Rattle.outward_interval.proofs.Quotients.{le-times, floor-le-ceiling}
 
-pub product-small : (m : ℕ) (a b : ℤ) → unsigned_abs a ≤ m → unsigned_abs (a *ℤ b) ≤ m * unsigned_abs b
-product-small m a b h = omega (arith, unsigned_abs-mul a b, mul-le-mul_right (unsigned_abs b) h)
-
 -- the sum of two levels, each times a place, and that in units
 module _ (a f b h : ℤ) (at_a : unsigned_abs a ≤ 2 ^ 30) (at_f : unsigned_abs f ≤ 2 ^ 30) (at_b : IsWithin (pos 524287) b) (at_h : IsWithin (pos 524287) h) where
   pub sum-small : unsigned_abs (a *ℤ b +ℤ f *ℤ h) ≤ 2 ^ 30 * unsigned_abs (b +ℤ h)
-  sum-small = omega (arith, near (a *ℤ b) (f *ℤ h), product-small (2 ^ 30) a b at_a, product-small (2 ^ 30) f h at_f, apart b h at_b.0 at_h.0)
+  sum-small = omega (arith, near (a *ℤ b) (f *ℤ h), times_size (2 ^ 30) a b at_a, times_size (2 ^ 30) f h at_f, apart b h at_b.0 at_h.0)
     where
       near : (p q : ℤ) → unsigned_abs (p +ℤ q) ≤ unsigned_abs p + unsigned_abs q
       near p q = omega (arith, ints)
@@ -59,23 +56,6 @@ mixed-rises a a' f f' (pos b) (pos h) at_a at_f at_b at_h = le-times 1024 _ _ (s
 mixed-rises a a' f f' (negsuc b) h at_a at_f at_b at_h = absurd (omega (arith, ints))
 mixed-rises a a' f f' (pos b) (negsuc h) at_a at_f at_b at_h = absurd (omega (arith, ints))
 
--- the floor of a quotient is no farther than a whole bound of it
-pub floor-small : (n z : ℤ) (d m : ℕ) → 0 < d → unsigned_abs n ≤ m * d → IsFloor n d z → unsigned_abs z ≤ m
-floor-small n (pos k) d m some h f = le_of_mul-le-mul_right (up_to (k * d) (m * d) n f.below h) some
-  where
-    up_to : (p q : ℕ) (n : ℤ) → pos p ≤ℤ n → unsigned_abs n ≤ q → p ≤ q
-    up_to p q n h k = omega (arith, ints)
-floor-small n (negsuc k) d m some h f = within (((floor_is_greatest n (negsuc k) d some).0 f).1 (neg_ℤ (pos m)) low)
-  where
-    least : (q : ℕ) (n : ℤ) → unsigned_abs n ≤ q → neg_ℤ (pos q) ≤ℤ n
-    least q n h = omega (arith, ints)
-
-    low : (neg_ℤ (pos m) *ℤ pos d) ≤ℤ n
-    low = subst (λ (l : ℤ). l ≤ℤ n) (ring integers (pos m ∷ pos d ∷ []) (opposite (var 0 :* var 1)) (opposite (var 0) :* var 1) refl) (least (m * d) n h)
-
-    within : neg_ℤ (pos m) ≤ℤ negsuc k → unsigned_abs (negsuc k) ≤ m
-    within h = omega (arith, ints)
-
 -- the ceiling is the opposite of the floor of the opposite
 pub ceiling_opposite : (n z : ℤ) (d : ℕ) → IsFloor (pos 0 -ℤ n) d z → IsCeiling n d (pos 0 -ℤ z)
 ceiling_opposite n z d f = rw (opposite_is z) (ceiling_by_floor n z d (rw (← opposite_is n) f))
@@ -84,7 +64,8 @@ ceiling_opposite n z d f = rw (opposite_is z) (ceiling_by_floor n z d (rw (← o
     opposite_is n = ring integers (n ∷ []) (number 0 :- var 0) (opposite (var 0)) refl
 
 -- rounded outwards, two quotients in order are the ends of a span
-pub quotients-span : (n m z w : ℤ) (d : ℕ) → 0 < d → n ≤ℤ m → unsigned_abs z ≤ 2 ^ 40 → unsigned_abs w ≤ 2 ^ 40 → IsFloor n d z → IsCeiling m d w → IsSpan 20 z w
+pub quotients-span : (n m z w : ℤ) (d : ℕ) → 0 < d → n ≤ℤ m → unsigned_abs z ≤ 2 ^ 40 → unsigned_abs w ≤ 2 ^ 40 → IsFloor n d z → IsCeiling m d w
+    → IsSpan 20 z w
 quotients-span n m z w d some h at_z at_w f c = record {
   ordered = floor-le-ceiling d n m z w some h f c;
   low = omega (arith, at_z);
@@ -103,13 +84,15 @@ module _ (first last x : ℤ) (at_first : IsWithin (pos 524287) first) (at_last 
   pub behind_within : IsWithin (pos 524287) (x -ℤ first)
   behind_within = (omega (arith, ints, from), omega (arith, ints, to, at_first.0, at_last.1))
 
-pub length_is : (first last : ℤ) → IsWithin (pos 524287) first → IsWithin (pos 524287) last → first <ℤ last → (pos 1 ≤ℤ (last -ℤ first)) × ((last -ℤ first) ≤ℤ pos 524287)
+pub length_is : (first last : ℤ) → IsWithin (pos 524287) first → IsWithin (pos 524287) last → first <ℤ last → (pos 1 ≤ℤ (last -ℤ first))
+    × ((last -ℤ first) ≤ℤ pos 524287)
 length_is first last at_first at_last h = (omega (arith, ints, h), omega (arith, ints, at_first.0, at_last.1))
 
 pub length_within : (first last : ℤ) → IsWithin (pos 524287) first → IsWithin (pos 524287) last → first <ℤ last → IsWithin (pos 524287) (last -ℤ first)
 length_within first last at_first at_last h = (omega (arith, ints, h), omega (arith, ints, at_first.0, at_last.1))
 
-pub size_joined : (n first last x : ℤ) → unsigned_abs n ≤ 2 ^ 40 * unsigned_abs ((last -ℤ x) +ℤ (x -ℤ first)) → unsigned_abs n ≤ 2 ^ 40 * unsigned_abs (last -ℤ first)
+pub size_joined : (n first last x : ℤ) → unsigned_abs n ≤ 2 ^ 40 * unsigned_abs ((last -ℤ x) +ℤ (x -ℤ first)) → unsigned_abs n ≤ 2 ^ 40 * unsigned_abs
+    (last -ℤ first)
 size_joined n first last x h = omega (arith, ints, h)
 
 pub level_fits : (n : ℤ) → unsigned_abs n ≤ 2 ^ 30 → SFits w64 n
@@ -152,7 +135,8 @@ module _ (plane : Waterplane) (first last x : ℤ) (length : ℕ) (some : 0 < le
 
   whole-mixed : (m n : ℤ) → whole (mixed m n) ≡ (whole m ⊗ (Fore ⊖ X) ⊕ whole n ⊗ (X ⊖ Aft)) ⊗ P
   whole-mixed m n = whole-mul (m *ℤ (last -ℤ x) +ℤ n *ℤ (x -ℤ first)) (pos 1024) ∙ ap (λ y. y ⊗ P)
-      (whole-add (m *ℤ (last -ℤ x)) (n *ℤ (x -ℤ first)) ∙ ap₂ ◌⊕◌ (whole-mul m (last -ℤ x) ∙ ap (λ y. whole m ⊗ y) (whole-sub last x)) (whole-mul n (x -ℤ first) ∙ ap (λ y. whole n ⊗ y) (whole-sub x first)))
+      (whole-add (m *ℤ (last -ℤ x)) (n *ℤ (x -ℤ first)) ∙ ap₂ ◌⊕◌ (whole-mul m (last -ℤ x) ∙ ap (λ y. whole m ⊗ y) (whole-sub last x))
+      (whole-mul n (x -ℤ first) ∙ ap (λ y. whole n ⊗ y) (whole-sub x first)))
 
   positive-length : sign (Fore ⊖ Aft) ≡ above
   positive-length = Order.positive_same fractions (sym whole-length) (positive-whole length some)
@@ -164,7 +148,8 @@ module _ (plane : Waterplane) (first last x : ℤ) (length : ℕ) (some : 0 < le
   squared = whole-mul (pos (2 ^ 10)) (pos (2 ^ 10))
 
   nonnegative_units : (k l : ℤ) → pos 0 ≤ℤ (k -ℤ l) → Order.NonNegative fractions ((whole k ⊖ whole l) ⊗ P)
-  nonnegative_units k l h = Order.nonnegative-mul fractions (Order.nonnegative_same fractions (sym (whole-sub k l)) (above_nought (k -ℤ l) h)) (nonnegative-whole (2 ^ 10))
+  nonnegative_units k l h = Order.nonnegative-mul fractions (Order.nonnegative_same fractions (sym (whole-sub k l)) (above_nought (k -ℤ l) h))
+      (nonnegative-whole (2 ^ 10))
     where
       above_nought : (n : ℤ) → pos 0 ≤ℤ n → Order.NonNegative fractions (whole n)
       above_nought (pos n) h = nonnegative-whole n
@@ -180,7 +165,8 @@ module _ (plane : Waterplane) (first last x : ℤ) (length : ℕ) (some : 0 < le
         ∷ ((var 5 :- var 6) :* var 4, var 10, var 3 :* var 4)
         ∷ (var 2 :* (var 7 :- var 5) :+ var 3 :* (var 5 :- var 6), var 4 :* var 4, var 1)
         ∷ (var 1 :* (var 3 :- var 2) :* (var 5 :- var 6), unit, (var 7 :- var 6) :* var 8) ∷ [])
-        (at_most low (scaled (nonnegative_units last x before) at_a.from (scaled (nonnegative_units x first behind) at_f.from (equal (sym squared) (equal (sym inverted) no_more)))))
+        (at_most low (scaled (nonnegative_units last x before) at_a.from (scaled (nonnegative_units x first behind) at_f.from
+        (equal (sym squared) (equal (sym inverted) no_more)))))
         (var 0 :* (var 7 :- var 6)) (level :* (var 7 :- var 6)) refl);
     to = Order.≼_cancel fractions positive-length (order_from fractions (values a2 f2 hi)
         ((unit, ((var 9 :* (var 7 :- var 5) :+ var 10 :* (var 5 :- var 6)) :* var 4), var 0 :* (var 7 :- var 6))
@@ -188,7 +174,8 @@ module _ (plane : Waterplane) (first last x : ℤ) (length : ℕ) (some : 0 < le
         ∷ ((var 5 :- var 6) :* var 4, var 3 :* var 4, var 10)
         ∷ (var 2 :* (var 7 :- var 5) :+ var 3 :* (var 5 :- var 6), var 1, var 4 :* var 4)
         ∷ (var 1 :* (var 3 :- var 2) :* (var 5 :- var 6), (var 7 :- var 6) :* var 8, unit) ∷ [])
-        (at_most high (scaled (nonnegative_units last x before) at_a.to (scaled (nonnegative_units x first behind) at_f.to (equal squared (equal inverted no_more)))))
+        (at_most high (scaled (nonnegative_units last x before) at_a.to (scaled (nonnegative_units x first behind) at_f.to
+        (equal squared (equal inverted no_more)))))
         (level :* (var 7 :- var 6)) (var 0 :* (var 7 :- var 6)) refl);
   }
     where
@@ -210,29 +197,42 @@ module _ (plane : Waterplane) (first last x : ℤ) (length : ℕ) (some : 0 < le
           (Order.≼_trans fractions (whole-≼ e.high.above) (Order.≼_same fractions (whole-mul hi (pos length) ∙ ap (λ y. whole hi ⊗ y) whole-length)))
 
 -- ---- levels that are the same at both ends
-floor_exact : (n z : ℤ) (d : ℕ) → 0 < d → n ≡ z *ℤ pos d → IsFloor n d z
+pub floor_exact : (n z : ℤ) (d : ℕ) → 0 < d → n ≡ z *ℤ pos d → IsFloor n d z
 floor_exact n z d some e = record { below = omega (arith, ints, e); next = omega (arith, ints, e, some, next_up) }
   where
     next_up : (z +ℤ pos 1) *ℤ pos d ≡ z *ℤ pos d +ℤ pos d
     next_up = ring integers (z ∷ pos d ∷ []) ((var 0 :+ unit) :* var 1) (var 0 :* var 1 :+ var 1) refl
 
-ceiling_exact : (n z : ℤ) (d : ℕ) → 0 < d → n ≡ z *ℤ pos d → IsCeiling n d z
+pub ceiling_exact : (n z : ℤ) (d : ℕ) → 0 < d → n ≡ z *ℤ pos d → IsCeiling n d z
 ceiling_exact n z d some e = record { above = omega (arith, ints, e); before = omega (arith, ints, e, some, next_down) }
   where
     next_down : (z -ℤ pos 1) *ℤ pos d ≡ z *ℤ pos d -ℤ pos d
     next_down = ring integers (z ∷ pos d ∷ []) ((var 0 :- unit) :* var 1) (var 0 :* var 1 :- var 1) refl
 
-module _ (plane : Waterplane) (first last x : ℤ) (length : ℕ) (some : 0 < length) (is : pos length ≡ last -ℤ first) where
+module _ (first last x : ℤ) (length : ℕ) (some : 0 < length) (is : pos length ≡ last -ℤ first) where
   mixed_same : (m : ℤ) → (m *ℤ (last -ℤ x) +ℤ m *ℤ (x -ℤ first)) *ℤ pos 1024 ≡ (m *ℤ pos 1024) *ℤ pos length
   mixed_same m = ring_from integers (m ∷ last ∷ x ∷ first ∷ pos length ∷ pos 1024 ∷ []) ((opposite (var 0 :* var 5), var 4, var 1 :- var 3) ∷ [])
       (given is none) ((var 0 :* (var 1 :- var 2) :+ var 0 :* (var 2 :- var 3)) :* var 5) ((var 0 :* var 5) :* var 4) refl
 
-  pub same_encloses : (a1 a2 f1 f2 lo hi : ℤ) → a1 ≡ f1 → a2 ≡ f2 → lo ≡ a1 *ℤ pos 1024 → hi ≡ a2 *ℤ pos 1024 → pos 0 ≤ℤ (last -ℤ x) → pos 0 ≤ℤ (x -ℤ first)
-      → ContainsFraction 10 a1 a2 plane.a → ContainsFraction 10 f1 f2 plane.f → ContainsFraction 20 lo hi (level_at plane first last (whole x))
-  same_encloses a1 a2 f1 f2 lo hi e g low high before behind at_a at_f = level_encloses plane first last x length some is a1 a2 f1 f2 lo hi before behind at_a at_f (record {
+  -- they are the quotients of what is mixed
+  pub same_least : (a1 a2 f1 f2 lo hi : ℤ) → a1 ≡ f1 → a2 ≡ f2 → lo ≡ a1 *ℤ pos 1024 → hi ≡ a2 *ℤ pos 1024
+      → AreLeastEnds ((a1 *ℤ (last -ℤ x) +ℤ f1 *ℤ (x -ℤ first)) *ℤ pos 1024) ((a2 *ℤ (last -ℤ x) +ℤ f2 *ℤ (x -ℤ first)) *ℤ pos 1024) length lo hi
+  same_least a1 a2 f1 f2 lo hi e g low high = record {
     low = rw (sym e, low) (floor_exact ((a1 *ℤ (last -ℤ x) +ℤ a1 *ℤ (x -ℤ first)) *ℤ pos 1024) (a1 *ℤ pos 1024) length some (mixed_same a1));
     high = rw (sym g, high) (ceiling_exact ((a2 *ℤ (last -ℤ x) +ℤ a2 *ℤ (x -ℤ first)) *ℤ pos 1024) (a2 *ℤ pos 1024) length some (mixed_same a2));
-  })
+  }
+
+  pub same_encloses : (plane : Waterplane) (a1 a2 f1 f2 lo hi : ℤ) → a1 ≡ f1 → a2 ≡ f2 → lo ≡ a1 *ℤ pos 1024 → hi ≡ a2 *ℤ pos 1024 → pos 0 ≤ℤ
+      (last -ℤ x) → pos 0 ≤ℤ (x -ℤ first)
+      → ContainsFraction 10 a1 a2 plane.a → ContainsFraction 10 f1 f2 plane.f → ContainsFraction 20 lo hi (level_at plane first last (whole x))
+  same_encloses plane a1 a2 f1 f2 lo hi e g low high before behind at_a at_f = level_encloses plane first last x length some is a1 a2 f1 f2 lo hi
+      before behind at_a at_f (same_least a1 a2 f1 f2 lo hi e g low high)
 
 pub same_span : (low high : ℤ) → low ≤ℤ high → unsigned_abs low ≤ 2 ^ 30 → unsigned_abs high ≤ 2 ^ 30 → IsSpan 20 (low *ℤ pos 1024) (high *ℤ pos 1024)
-same_span low high order h k = record { ordered = omega (arith, ints, order); low = omega (arith, ints, h); high = omega (arith, ints, k); scaled = omega arith }
+same_span low high order h k = record {
+  ordered = omega (arith, ints, order);
+  low = omega (arith, ints, h);
+  high = omega (arith, ints, k);
+  scaled =
+      omega arith;
+}

@@ -1,3 +1,4 @@
+pub mod QuotientSizes
 pub mod Levels
 pub mod FaceAreas
 pub mod ProductEnds
@@ -7,3 +8,12 @@ pub mod SeenMeans
 pub mod ColumnSums
 pub mod SeenSums
 pub mod Measured
+pub mod MeanWidths
+pub mod DepthEnds
+pub mod BoxWidths
+pub mod ColumnWidths
+pub mod FaceWidths
+pub mod TotalWidths
+pub mod LevelEnds
+pub mod SeenWidths
+pub mod LidTotals

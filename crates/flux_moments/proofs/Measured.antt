@@ -25,7 +25,7 @@ use Rattle.hull_polyhedron.proofs.WholeHull.{central_law}
 use Rattle.flux_moments.specs.Columns.{face_at, columns_volume, columns_mx, columns_mv, columns_mu, lid_parts}
 
 -- what a span holds of a multiple, it holds of the number once it is divided
-pub divided : (F n : ℕ) {lo hi : ℤ} {x : Fraction} → 0 < n → ContainsFraction F lo hi ((x ⊗ whole (pos n)) ⊗ inverse (whole (pos n))) → ContainsFraction F lo hi x
+divided : (F n : ℕ) {lo hi : ℤ} {x : Fraction} → 0 < n → ContainsFraction F lo hi ((x ⊗ whole (pos n)) ⊗ inverse (whole (pos n))) → ContainsFraction F lo hi x
 divided F n {lo} {hi} {x} h c = subst (λ y. ContainsFraction F lo hi y) same c
   where
     same : (x ⊗ whole (pos n)) ⊗ inverse (whole (pos n)) ≡ x
@@ -46,16 +46,20 @@ module _ (plane : Waterplane) (stations : List Station) (hull : IsHull stations)
   placed Q = ap (λ first. Q first faces.last_x) are.first_x ∙ ap (λ last. Q (first_x stations) last) are.last_x
 
   pub volume_measured : columns_volume plane faces.first_x faces.last_x faces.list ≡ submerged_volume plane stations
-  volume_measured = placed (λ first last. columns_volume plane first last faces.list) ∙ sum_at (column plane (first_x stations) (last_x stations) (λ p. one)) faces.list ∙ sym law.volume
+  volume_measured = placed (λ first last. columns_volume plane first last faces.list) ∙ sum_at
+      (column plane (first_x stations) (last_x stations) (λ p. one)) faces.list ∙ sym law.volume
 
   pub mx_measured : columns_mx plane faces.first_x faces.last_x faces.list ≡ mx plane stations
-  mx_measured = placed (λ first last. columns_mx plane first last faces.list) ∙ sum_at (column plane (first_x stations) (last_x stations) (λ p. p.x)) faces.list ∙ sym law.mx
+  mx_measured = placed (λ first last. columns_mx plane first last faces.list) ∙ sum_at (column plane (first_x stations) (last_x stations) (λ p. p.x))
+      faces.list ∙ sym law.mx
 
   pub mv_measured : columns_mv plane faces.first_x faces.last_x faces.list ≡ mv plane stations
-  mv_measured = placed (λ first last. columns_mv plane first last faces.list) ∙ sum_at (column plane (first_x stations) (last_x stations) (side_distance plane)) faces.list ∙ sym law.mv
+  mv_measured = placed (λ first last. columns_mv plane first last faces.list) ∙ sum_at
+      (column plane (first_x stations) (last_x stations) (side_distance plane)) faces.list ∙ sym law.mv
 
   pub mu_measured : columns_mu plane faces.first_x faces.last_x faces.list ≡ mu plane stations
-  mu_measured = placed (λ first last. columns_mu plane first last faces.list) ∙ sum_at (column plane (first_x stations) (last_x stations) (middle plane (first_x stations) (last_x stations))) faces.list ∙ sym law.mu
+  mu_measured = placed (λ first last. columns_mu plane first last faces.list) ∙ sum_at
+      (column plane (first_x stations) (last_x stations) (middle plane (first_x stations) (last_x stations))) faces.list ∙ sym law.mu
 
 -- the lid at a level
 module _ (at : Fraction) (stations : List Station) (hull : IsHull stations) (faces : Faces) (are : AreFacesOf stations faces) where
@@ -79,5 +83,13 @@ module _ (at : Fraction) (stations : List Station) (hull : IsHull stations) (fac
   lid_xx_seen = seen (λ p. p.x) (λ p. p.x) ∙ sym lid.xx
 
 -- the same number under other names
-pub renamed : (Q : ℤ → ℤ → List Face → Fraction) {first last first' last' : ℤ} {faces faces' : List Face} → first ≡ first' → last ≡ last' → faces ≡ faces' → Q first last faces ≡ Q first' last' faces'
+renamed : (Q : ℤ → ℤ → List Face → Fraction) {first last first' last' : ℤ} {faces faces' : List Face} → first ≡ first' → last ≡ last' → faces ≡ faces'
+    → Q first last faces ≡ Q first' last' faces'
 renamed Q {first} {last} {first'} {last'} {faces} {faces'} e f g = ap (λ z. Q z last faces) e ∙ ap (λ z. Q first' z faces) f ∙ ap (λ l. Q first' last' l) g
+
+-- what is measured is a quotient of a sum between the faces' own ends
+pub measured : (faces : Faces) {first last : ℤ} {list : List Face} → first ≡ faces.first_x → last ≡ faces.last_x → list ≡ faces.list → (n : ℕ) → 0 < n
+    → (Q : ℤ → ℤ → List Face → Fraction) {value : Fraction} {lo hi : ℤ}
+    → Q faces.first_x faces.last_x faces.list ≡ value → ContainsFraction 20 lo hi ((Q first last list ⊗ whole (pos n)) ⊗ inverse (whole (pos n)))
+    → ContainsFraction 20 lo hi value
+measured faces e f g n some Q {value} {lo} {hi} same c = subst (λ (x : Fraction). ContainsFraction 20 lo hi x) (renamed Q e f g ∙ same) (divided 20 n some c)

@@ -1,16 +1,12 @@
 -- How far the ends of products of spans may lie.
-use Rattle.std.proofs.Common.{ℕ, zero, suc, ◌≡◌, refl, sym, subst, ◌+◌, ◌*◌, ◌^◌, ◌<◌, ◌≤◌, ℤ, pos, neg_ℤ, ◌+ℤ◌, ◌-ℤ◌, ◌*ℤ◌, unsigned_abs, arith}
+use Rattle.std.proofs.Common.{ℕ, zero, suc, ◌≡◌, sym, subst, ◌+◌, ◌*◌, ◌^◌, ◌<◌, ◌≤◌, ℤ, pos, ◌+ℤ◌, ◌*ℤ◌, unsigned_abs, arith}
 use Rattle.std.proofs.lemmas.Int.{ints, clamps, unsigned_abs-mul}
 use Rattle.std.proofs.lemmas.Nat.{mul-lt}
 use Rattle.std.specs.Int.{int_min, int_max}
-use mathlib.Core.List.{[], ◌∷◌}
-use Rattle.exact_algebra.specs.Expression.{var, opposite, ◌:*◌, ◌:+◌, ◌:-◌, unit}
 use Rattle.exact_algebra.specs.Span.{IsFloor, IsCeiling}
-use Rattle.exact_algebra.proofs.Ring.{ring}
-use Rattle.exact_algebra.proofs.WholeNumbers.{integers}
 use Rattle.exact_algebra.proofs.Products.{least_of, greatest_of}
 use Rattle.outward_interval.specs.Ends.{EndsBelow, ProductsBelow, AreEnds, AreLeastEnds, least_product, greatest_product}
-use Rattle.flux_moments.proofs.Levels.{floor-small}
+pub use Rattle.flux_moments.proofs.QuotientSizes.{floor-size, ceiling-size}
 use Rattle.flux_moments.specs.Limits.{EndsAtMost, EndsLess}
 
 pub product_less : (M N : ℕ) (a c : ℤ) → unsigned_abs a < M → unsigned_abs c < N → unsigned_abs (a *ℤ c) < M * N
@@ -28,36 +24,22 @@ products_fit M N {a} {b} {c} {d} fits h k = record {
     within h = omega (arith, fits, h)
 
 -- ---- quotients rounded
-negative_product : (z D : ℤ) → neg_ℤ z *ℤ D ≡ neg_ℤ (z *ℤ D)
-negative_product z D = ring integers (z ∷ D ∷ []) (opposite (var 0) :* var 1) (opposite (var 0 :* var 1)) refl
-
 positive : (K D : ℕ) {n : ℕ} → n < K * D → 0 < D
 positive K zero h = absurd (omega (arith, h))
 positive K (suc D) h = omega arith
 
 pub floor_at_most : (K D : ℕ) (n z : ℤ) → unsigned_abs n < K * D → IsFloor n D z → unsigned_abs z ≤ K
-floor_at_most K D n z h f = floor-small n z D K (positive K D h) (omega (arith, h)) f
+floor_at_most K D n z h f = floor-size n z D K (positive K D h) (omega (arith, h)) f
 
 pub ceiling_at_most : (K D : ℕ) (n z : ℤ) → unsigned_abs n < K * D → IsCeiling n D z → unsigned_abs z ≤ K
-ceiling_at_most K D n z h c = omega (arith, ints, floor_at_most K D (neg_ℤ n) (neg_ℤ z) turned_size turned)
-  where
-    turned_size : unsigned_abs (neg_ℤ n) < K * D
-    turned_size = omega (arith, ints, h)
-
-    first : neg_ℤ z *ℤ pos D ≡ neg_ℤ (z *ℤ pos D)
-    first = negative_product z (pos D)
-
-    second : (neg_ℤ z +ℤ pos 1) *ℤ pos D ≡ neg_ℤ ((z -ℤ pos 1) *ℤ pos D)
-    second = ring integers (z ∷ pos D ∷ []) ((opposite (var 0) :+ unit) :* var 1) (opposite ((var 0 :- unit) :* var 1)) refl
-
-    turned : IsFloor (neg_ℤ n) D (neg_ℤ z)
-    turned = record { below = omega (arith, ints, first, c.above); next = omega (arith, ints, second, c.before) }
+ceiling_at_most K D n z h c = ceiling-size n z D K (positive K D h) (omega (arith, h)) c
 
 -- ---- the least and the greatest of four
 least_less : (B : ℕ) (p q r s : ℤ) → unsigned_abs p < B → unsigned_abs q < B → unsigned_abs r < B → unsigned_abs s < B → unsigned_abs (least_of p q r s) < B
 least_less B p q r s h i j k = omega (arith, ints, clamps)
 
-greatest_less : (B : ℕ) (p q r s : ℤ) → unsigned_abs p < B → unsigned_abs q < B → unsigned_abs r < B → unsigned_abs s < B → unsigned_abs (greatest_of p q r s) < B
+greatest_less : (B : ℕ) (p q r s : ℤ) → unsigned_abs p < B → unsigned_abs q < B → unsigned_abs r < B → unsigned_abs s < B → unsigned_abs
+    (greatest_of p q r s) < B
 greatest_less B p q r s h i j k = omega (arith, ints, clamps)
 
 pub product_ends : (M N K D : ℕ) {a b c d lo hi : ℤ} → M * N ≤ K * D → EndsLess M a b → EndsLess N c d
@@ -125,7 +107,8 @@ multiple_ends M N n {lo} {hi} {low} {high} e h are = record {
     greater B p q i j = omega (arith, ints, clamps)
 
 -- a span times a number below 2^37, taken from scale 40 to scale 20
-pub rescaled_ends : (most : ℕ) {lo hi low high : ℤ} → EndsLess (most * 2 ^ 37) lo hi → AreLeastEnds (lo *ℤ pos (2 ^ 20)) (hi *ℤ pos (2 ^ 20)) (2 ^ 40) low high → EndsAtMost (most * 2 ^ 17) low high
+pub rescaled_ends : (most : ℕ) {lo hi low high : ℤ} → EndsLess (most * 2 ^ 37) lo hi → AreLeastEnds (lo *ℤ pos (2 ^ 20)) (hi *ℤ pos (2 ^ 20)) (2 ^ 40)
+    low high → EndsAtMost (most * 2 ^ 17) low high
 rescaled_ends most {lo} {hi} {low} {high} e are = record {
   low = floor_at_most (most * 2 ^ 17) (2 ^ 40) (lo *ℤ pos (2 ^ 20)) low (within lo e.low) are.low;
   high = ceiling_at_most (most * 2 ^ 17) (2 ^ 40) (hi *ℤ pos (2 ^ 20)) high (within hi e.high) are.high;
@@ -147,8 +130,19 @@ sum_ends B C {a} {b} {c} {d} {lo} {hi} h k are = record { low = together lo a c 
     together : (z x y : ℤ) → z ≡ x +ℤ y → unsigned_abs x < B → unsigned_abs y < C → unsigned_abs z < B + C
     together z x y e i j = omega (arith, ints, e, i, j)
 
-pub below_108 : {lo hi : ℤ} → EndsLess ((2 ^ 106 + 2 ^ 106) + 2 ^ 106) lo hi → EndsBelow 108 lo hi
-below_108 e = record { low = under e.low; high = under e.high }
+pub at_most_sum : (m n most : ℕ) {a b c d lo hi : ℤ} → m + n ≤ most → EndsAtMost m a b → EndsAtMost n c d → AreEnds (a +ℤ c) (b +ℤ d) lo hi
+    → EndsAtMost most lo hi
+at_most_sum m n most {a} {b} {c} {d} {lo} {hi} fits h k are = record {
+  low = together lo a c are.low h.low k.low;
+  high = together hi b d are.high
+      h.high k.high;
+}
   where
-    under : {n : ℕ} → n < (2 ^ 106 + 2 ^ 106) + 2 ^ 106 → n < 2 ^ 108
-    under h = omega (arith, h)
+    together : (z x y : ℤ) → z ≡ x +ℤ y → unsigned_abs x ≤ m → unsigned_abs y ≤ n → unsigned_abs z ≤ most
+    together z x y e i j = omega (arith, ints, fits, e, i, j)
+
+pub at_most_fits : (m n : ℕ) {a b c d : ℤ} → m + n < 2 ^ 126 → EndsAtMost m a b → EndsAtMost n c d → EndsBelow 126 (a +ℤ c) (b +ℤ d)
+at_most_fits m n {a} {b} {c} {d} fits h k = record { low = together a c h.low k.low; high = together b d h.high k.high }
+  where
+    together : (x y : ℤ) → unsigned_abs x ≤ m → unsigned_abs y ≤ n → unsigned_abs (x +ℤ y) < 2 ^ 126
+    together x y i j = omega (arith, ints, fits, i, j)

@@ -1,6 +1,6 @@
 // Corners of a face at the planes of a box.
-ghost use Rattle.std.specs.Prelude.{◌≡◌, ◌+◌, ◌*◌, ◌^◌, ◌≤◌, ◌≤ℤ◌, ◌<ℤ◌, ◌+ℤ◌, ◌*ℤ◌, pos, unsigned_abs};
-ghost use Rattle.exact_algebra.proofs.Fraction.{◌⊕◌, ◌⊗◌};
+ghost use Rattle.std.specs.Prelude.{◌≡◌, ◌+◌, ◌*◌, ◌^◌, ◌≤◌, ◌≤ℤ◌, ◌<ℤ◌, ◌+ℤ◌, ◌-ℤ◌, ◌*ℤ◌, ℤ, pos, unsigned_abs};
+ghost use Rattle.exact_algebra.proofs.Fraction.{Fraction, ◌⊕◌, ◌⊗◌};
 ghost use Rattle.exact_algebra.proofs.Span.{ContainsFraction};
 ghost use Rattle.exact_algebra.proofs.Whole.{whole};
 ghost use Rattle.exact_algebra.specs.Span.{IsFloor, IsCeiling};
@@ -8,10 +8,12 @@ ghost use Rattle.exact_fraction.specs.Bounds.{MagnitudeBelow};
 ghost use Rattle.hull_model.specs.Body.{IsWithin};
 ghost use Rattle.hull_model.specs.Nodes.{IsNode};
 ghost use Rattle.hull_model.specs.Waterplane.{Waterplane, position_of, height, side_distance, level_at};
-ghost use Rattle.outward_interval.specs.Ends.{EndsBelow, AreLeastEnds};
+ghost use Rattle.outward_interval.specs.Ends.{AreLeastEnds};
+ghost use Rattle.outward_interval.specs.Widths.{units, IsNarrow, IsNear};
 ghost use Rattle.flux_moments.specs.Columns as columns;
 ghost use Rattle.flux_moments.specs.Limits.{EndsAtMost};
-ghost use Rattle.flux_moments.specs.Planes.{HasDirectionIn, IsIn, cosine, sine};
+ghost use Rattle.flux_moments.specs.Planes.{HasDirectionIn, IsIn, AreLevelEnds, cosine, sine};
+ghost use Rattle.flux_moments.specs.Sizes.{BoxSize, HasSize, IsLevelBox, distance, Reaches, spread, IsCornerSize};
 
 use crate::PlaneBox;
 use angle_bounds::Bracket;
@@ -40,9 +42,9 @@ pub(crate) struct Corner {
     pub(crate) side: Span<20>,
     pub(crate) middle: Span<20>,
     ghost place: { MagnitudeBelow 19 x },
-    ghost depth_ends: { EndsBelow 41 depth.lo depth.hi },
-    ghost side_ends: { EndsBelow 39 side.lo side.hi },
-    ghost middle_ends: { EndsBelow 41 middle.lo middle.hi },
+    ghost depth_ends: { EndsAtMost (9 * 2 ^ 37 + 1) depth.lo depth.hi },
+    ghost side_ends: { EndsAtMost (2 ^ 37 + 1) side.lo side.hi },
+    ghost middle_ends: { EndsAtMost (9 * 2 ^ 37 + 1) middle.lo middle.hi },
 }
 
 impl Corner {
@@ -53,6 +55,7 @@ impl Corner {
         ensures depth { (plane : Waterplane) → IsIn planes.now plane → ContainsFraction 20 result.depth.lo result.depth.hi (columns.depth_of plane way.first way.last node) }
         ensures side { (plane : Waterplane) → IsIn planes.now plane → ContainsFraction 20 result.side.lo result.side.hi (side_distance plane (position_of node)) }
         ensures middle { (plane : Waterplane) → IsIn planes.now plane → ContainsFraction 20 result.middle.lo result.middle.hi (level_at plane way.first way.last (whole node.x) ⊕ height plane (position_of node)) }
+        ensures size { (b : BoxSize) (h : Fraction) → HasSize planes.now b → Reaches b h node → IsCornerSize (spread b h) h result.depth result.side result.middle }
     {
         let level = levels_at(planes, way, node.x);
         let height = height_of(&planes.bracket, node);
@@ -69,8 +72,11 @@ impl Corner {
 pub(crate) fn depth_of(planes: &PlaneBox, way: Way, node: Node) -> Span<20>
     requires node { IsNode node }
     requires between { (way.first ≤ℤ node.x) × (node.x ≤ℤ way.last) }
-    ensures ends { EndsBelow 41 result.lo result.hi }
+    ensures ends { EndsAtMost (9 * 2 ^ 37 + 1) result.lo result.hi }
     ensures contains { (plane : Waterplane) → IsIn planes.now plane → ContainsFraction 20 result.lo result.hi (columns.depth_of plane way.first way.last node) }
+    ensures narrow { (b : BoxSize) (h : Fraction) → HasSize planes.now b → Reaches b h node → IsNarrow 20 (spread b h ⊕ units 20 4) result.lo result.hi }
+    ensures near { (b : BoxSize) (h : Fraction) → HasSize planes.now b → Reaches b h node → IsNear 20 (h ⊕ units 20 2) result.lo result.hi }
+    ensures level { (d1 d2 : ℤ) → IsLevelBox planes.now d1 d2 → (result.lo ≡ (d1 *ℤ pos 1024) -ℤ (node.z *ℤ pos (2 ^ 20))) × (result.hi ≡ (d2 *ℤ pos 1024) -ℤ (node.z *ℤ pos (2 ^ 20))) }
 {
     levels_at(planes, way, node.x) - height_of(&planes.bracket, node)
 }
@@ -80,6 +86,9 @@ fn height_of(bracket: &Bracket, node: Node) -> Span<20>
     requires { IsNode node }
     ensures ends { EndsAtMost (2 ^ 37 + 1) result.lo result.hi }
     ensures contains { (plane : Waterplane) → HasDirectionIn bracket.now plane → ContainsFraction 20 result.lo result.hi (height plane (position_of node)) }
+    ensures narrow { (e : Fraction) → IsNarrow 40 e bracket.now.c.lo bracket.now.c.hi → IsNarrow 40 e bracket.now.s.lo bracket.now.s.hi → IsNarrow 20 (e ⊗ distance node ⊕ units 20 2) result.lo result.hi }
+    ensures near { IsNear 20 (distance node ⊕ units 20 1) result.lo result.hi }
+    ensures upright { (bracket.now.c.lo ≡ pos (2 ^ 40)) × (bracket.now.c.hi ≡ pos (2 ^ 40)) → (bracket.now.s.lo ≡ pos 0) × (bracket.now.s.hi ≡ pos 0) → (result.lo ≡ node.z *ℤ pos (2 ^ 20)) × (result.hi ≡ node.z *ℤ pos (2 ^ 20)) }
 {
     let along = times_cosine(bracket, node.z);
     let across = times_sine(bracket, node.y);
@@ -91,6 +100,8 @@ fn side_of(bracket: &Bracket, node: Node) -> Span<20>
     requires { IsNode node }
     ensures ends { EndsAtMost (2 ^ 37 + 1) result.lo result.hi }
     ensures contains { (plane : Waterplane) → HasDirectionIn bracket.now plane → ContainsFraction 20 result.lo result.hi (side_distance plane (position_of node)) }
+    ensures narrow { (e : Fraction) → IsNarrow 40 e bracket.now.c.lo bracket.now.c.hi → IsNarrow 40 e bracket.now.s.lo bracket.now.s.hi → IsNarrow 20 (e ⊗ distance node ⊕ units 20 2) result.lo result.hi }
+    ensures near { IsNear 20 (distance node ⊕ units 20 1) result.lo result.hi }
 {
     let along = times_sine(bracket, node.z);
     let across = times_cosine(bracket, node.y);
@@ -102,8 +113,10 @@ pub(crate) fn times_cosine(bracket: &Bracket, n: i64) -> Span<40>
     requires { MagnitudeBelow 41 n }
     ensures ends { EndsAtMost (2 ^ 40 * unsigned_abs n) result.lo result.hi }
     ensures contains { (plane : Waterplane) → HasDirectionIn bracket.now plane → ContainsFraction 40 result.lo result.hi (cosine plane ⊗ whole n) }
+    ensures narrow { (e : Fraction) → IsNarrow 40 e bracket.now.c.lo bracket.now.c.hi → IsNarrow 40 (e ⊗ whole (pos (unsigned_abs n))) result.lo result.hi }
+    ensures same { (k : ℤ) → bracket.now.c.lo ≡ k → bracket.now.c.hi ≡ k → (result.lo ≡ k *ℤ n) × (result.hi ≡ k *ℤ n) }
 {
-    bracket.c.times_whole(i128::from(n))
+    times(bracket.c, n)
 }
 
 /// The sine times a whole number, for all directions of a bracket.
@@ -111,8 +124,22 @@ pub(crate) fn times_sine(bracket: &Bracket, n: i64) -> Span<40>
     requires { MagnitudeBelow 41 n }
     ensures ends { EndsAtMost (2 ^ 40 * unsigned_abs n) result.lo result.hi }
     ensures contains { (plane : Waterplane) → HasDirectionIn bracket.now plane → ContainsFraction 40 result.lo result.hi (sine plane ⊗ whole n) }
+    ensures narrow { (e : Fraction) → IsNarrow 40 e bracket.now.s.lo bracket.now.s.hi → IsNarrow 40 (e ⊗ whole (pos (unsigned_abs n))) result.lo result.hi }
+    ensures same { (k : ℤ) → bracket.now.s.lo ≡ k → bracket.now.s.hi ≡ k → (result.lo ≡ k *ℤ n) × (result.hi ≡ k *ℤ n) }
 {
-    bracket.s.times_whole(i128::from(n))
+    times(bracket.s, n)
+}
+
+/// All numbers of a span from 0 to 1, each times a whole number.
+fn times(part: Span<40>, n: i64) -> Span<40>
+    requires part { EndsAtMost (2 ^ 40) part.lo part.hi }
+    requires n { MagnitudeBelow 41 n }
+    ensures ends { EndsAtMost (2 ^ 40 * unsigned_abs n) result.lo result.hi }
+    ensures contains { (x : Fraction) → ContainsFraction 40 part.lo part.hi x → ContainsFraction 40 result.lo result.hi (x ⊗ whole n) }
+    ensures narrow { (e : Fraction) → IsNarrow 40 e part.lo part.hi → IsNarrow 40 (e ⊗ whole (pos (unsigned_abs n))) result.lo result.hi }
+    ensures same { (k : ℤ) → part.lo ≡ k → part.hi ≡ k → (result.lo ≡ k *ℤ n) × (result.hi ≡ k *ℤ n) }
+{
+    part.times_whole(i128::from(n))
 }
 
 /// The levels of a box at x.
@@ -120,6 +147,9 @@ fn levels_at(planes: &PlaneBox, way: Way, x: i64) -> Span<20>
     requires { (way.first ≤ℤ x) × (x ≤ℤ way.last) }
     ensures ends { EndsAtMost (2 ^ 40) result.lo result.hi }
     ensures contains { (plane : Waterplane) → IsIn planes.now plane → ContainsFraction 20 result.lo result.hi (level_at plane way.first way.last (whole x)) }
+    ensures narrow { (d : Fraction) → IsNarrow 10 d planes.now.a1 planes.now.a2 → IsNarrow 10 d planes.now.f1 planes.now.f2 → IsNarrow 20 (d ⊕ units 20 2) result.lo result.hi }
+    ensures near { (l : Fraction) → IsNear 10 l planes.now.a1 planes.now.a2 → IsNear 10 l planes.now.f1 planes.now.f2 → IsNear 20 (l ⊕ units 20 1) result.lo result.hi }
+    ensures level { (d1 d2 : ℤ) → (planes.now.a1 ≡ d1) × (planes.now.a2 ≡ d2) → (planes.now.f1 ≡ d1) × (planes.now.f2 ≡ d2) → (result.lo ≡ d1 *ℤ pos 1024) × (result.hi ≡ d2 *ℤ pos 1024) }
 {
     if planes.a1 == planes.f1 && planes.a2 == planes.f2 {
         same_levels(planes.a1, planes.a2)
@@ -149,7 +179,7 @@ fn same_levels(low: i64, high: i64) -> Span<20>
 fn trimmed_levels_at(planes: &PlaneBox, way: Way, x: i64) -> Span<20>
     requires { (way.first ≤ℤ x) × (x ≤ℤ way.last) }
     ensures ends { EndsAtMost (2 ^ 40) result.lo result.hi }
-    ensures contains { (plane : Waterplane) → IsIn planes.now plane → ContainsFraction 20 result.lo result.hi (level_at plane way.first way.last (whole x)) }
+    ensures levels { AreLevelEnds planes.now way.first way.last x result.lo result.hi }
 {
     let (behind, before) = (x - way.first, way.last - x);
     let low = mixed(planes.a1, planes.f1, before, behind);

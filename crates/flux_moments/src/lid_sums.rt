@@ -1,7 +1,7 @@
 // The lid: the part of a level plane that closes the body below it.
-ghost use Rattle.std.specs.Prelude.{◌≡◌, ◌<◌, ◌^◌, ◌+◌, ◌*◌, ◌≤ℤ◌, ◌*ℤ◌, ℕ, List, length, pos, neg_ℤ, unsigned_abs};
+ghost use Rattle.std.specs.Prelude.{◌≡◌, ◌<◌, ◌^◌, ◌+◌, ◌*◌, ◌≤ℤ◌, ◌*ℤ◌, ℕ, ℤ, List, [], ◌∷◌, length, pos, neg_ℤ, unsigned_abs};
 ghost use Rattle.std.specs.List.{AllByRecursion};
-ghost use Rattle.exact_algebra.proofs.Fraction.{Fraction, one, ◌⊕◌, ◌⊗◌};
+ghost use Rattle.exact_algebra.proofs.Fraction.{Fraction, one, ◌⊕◌, ◌⊗◌, ◌≼◌};
 ghost use Rattle.exact_algebra.proofs.Span.{ContainsFraction};
 ghost use Rattle.exact_algebra.proofs.Whole.{whole};
 ghost use Rattle.exact_fraction.specs.Bounds.{MagnitudeBelow};
@@ -10,14 +10,18 @@ ghost use Rattle.hull_model.specs.Body.{IsHull};
 ghost use Rattle.hull_model.specs.Faces.{IsFace};
 ghost use Rattle.hull_model.specs.Lid as model;
 ghost use Rattle.hull_model.specs.Waterplane.{upright};
-ghost use Rattle.hull_polyhedron.specs.Between.{LieBetween};
+ghost use Rattle.hull_polyhedron.specs.Between.{LieBetween, IsInside, LieInside};
 ghost use Rattle.hull_polyhedron.specs.FacesOf.{AreFacesOf};
 ghost use Rattle.outward_interval.specs.Ends.{EndsBelow};
+ghost use Rattle.outward_interval.specs.Widths.{units, IsNarrow};
 ghost use Rattle.outward_interval.specs.declared.span.Span as span;
-ghost use Rattle.plane_clip.specs.Enclosure.{Each, Encloses, CornerDepths, AreWithin, corner_means, pair_means};
+ghost use Rattle.plane_clip.specs.Enclosure.{Each, EnclosesMean, IsNoWider, CornerDepths, AreWithin, corner_means, pair_means};
 ghost use Rattle.flux_moments.specs.Columns.{lid_part, lid_parts, linear_at, square_at};
 ghost use Rattle.flux_moments.specs.Limits.{AreLevels, EndsAtMost, EndsLess};
+ghost use Rattle.flux_moments.specs.LidWidths.{AreSeenWidths, AreLidWidths, rise_between};
 ghost use Rattle.flux_moments.specs.Planes.{IsIn};
+ghost use Rattle.flux_moments.specs.Sizes.{IsLevelBox};
+ghost use Rattle.flux_moments.specs.Widths.{lid_bound};
 
 use crate::PlaneBox;
 use crate::corner::{Way, depth_of};
@@ -36,23 +40,33 @@ pub struct LidSums {
     pub sxx: Span<20>,
 }
 
-/// Encloses the area of a hull's lid and the integrals over it, for each upright level plane from `d1` to `d2`, in grid
+/// EnclosesMean the area of a hull's lid and the integrals over it, for each upright level plane from `d1` to `d2`, in grid
 /// units of 1/1024 mm. The faces are the hull's boundary.
 ///
 /// The lid is the part of the plane that closes the body below it: a deck in the plane is part of it, a bottom in the
-/// plane isn't. The levels are at most 2^30 in magnitude. The ends lie below 2^72 for the area, 2^93 for `sx` and 2^114
-/// for `syy` and `sxx` in magnitude. One pass over the faces: each gives what is seen of its wet part from above, and a
-/// face that points downwards adds what one that points upwards takes away.
+/// plane isn't. The levels are at most 2^30 in magnitude.
+///
+/// The area is no wider than B, the sum over the faces of half of |az| times the rise of the wet share from `d1` to
+/// `d2` and 2^-32, with 2^-18 mm² for each face. `sx` is no wider than the last x times B, `syy` than the half-breadth
+/// squared times B, and `sxx` than the last x squared times B.
+///
+/// The ends lie below 2^71 units of 2^-20 in magnitude for the area, below 2^92 for `sx`, and below 2^113 for `syy` and
+/// `sxx`. One pass over the faces: each gives what is seen of its wet part from above, and a face that points downwards
+/// adds what one that points upwards takes away.
 pub fn lid(faces: &Faces, d1: i64, d2: i64) -> LidSums
     requires levels { AreLevels d1 d2 d1 d2 }
     ensures area { (stations : List Station) → IsHull stations → AreFacesOf stations faces.now → (at : Fraction) → ContainsFraction 10 d1 d2 at → ContainsFraction 20 result.area.lo result.area.hi (model.lid_area at stations) }
     ensures sx { (stations : List Station) → IsHull stations → AreFacesOf stations faces.now → (at : Fraction) → ContainsFraction 10 d1 d2 at → ContainsFraction 20 result.sx.lo result.sx.hi (model.lid_x at stations) }
     ensures syy { (stations : List Station) → IsHull stations → AreFacesOf stations faces.now → (at : Fraction) → ContainsFraction 10 d1 d2 at → ContainsFraction 20 result.syy.lo result.syy.hi (model.lid_yy at stations) }
     ensures sxx { (stations : List Station) → IsHull stations → AreFacesOf stations faces.now → (at : Fraction) → ContainsFraction 10 d1 d2 at → ContainsFraction 20 result.sxx.lo result.sxx.hi (model.lid_xx at stations) }
-    ensures area_ends { EndsBelow 72 result.area.lo result.area.hi }
-    ensures sx_ends { EndsBelow 93 result.sx.lo result.sx.hi }
-    ensures syy_ends { EndsBelow 114 result.syy.lo result.syy.hi }
-    ensures sxx_ends { EndsBelow 114 result.sxx.lo result.sxx.hi }
+    ensures area_ends { EndsBelow 71 result.area.lo result.area.hi }
+    ensures sx_ends { EndsBelow 92 result.sx.lo result.sx.hi }
+    ensures syy_ends { EndsBelow 113 result.syy.lo result.syy.hi }
+    ensures sxx_ends { EndsBelow 113 result.sxx.lo result.sxx.hi }
+    ensures area_width { IsNarrow 20 (lid_bound faces.now d1 d2) result.area.lo result.area.hi }
+    ensures sx_width { IsNarrow 20 (whole faces.now.last_x ⊗ lid_bound faces.now d1 d2) result.sx.lo result.sx.hi }
+    ensures syy_width { IsNarrow 20 ((whole faces.now.half_breadth ⊗ whole faces.now.half_breadth) ⊗ lid_bound faces.now d1 d2) result.syy.lo result.syy.hi }
+    ensures sxx_width { IsNarrow 20 ((whole faces.now.last_x ⊗ whole faces.now.last_x) ⊗ lid_bound faces.now d1 d2) result.sxx.lo result.sxx.hi }
 {
     let way = Way {
         first: faces.first_x(),
@@ -70,7 +84,8 @@ pub fn lid(faces: &Faces, d1: i64, d2: i64) -> LidSums
 /// The upright planes with a level from d1 to d2 at both ends.
 fn level_planes(d1: i64, d2: i64) -> PlaneBox
     requires levels { AreLevels d1 d2 d1 d2 }
-    ensures { (at : Fraction) → ContainsFraction 10 d1 d2 at → IsIn result (upright at) }
+    ensures contains { (at : Fraction) → ContainsFraction 10 d1 d2 at → IsIn result (upright at) }
+    ensures level { IsLevelBox result d1 d2 }
 {
     match PlaneBox::upright(d1, d2, d1, d2) {
         Some(planes) => planes,
@@ -87,10 +102,12 @@ fn seen_sums(faces: &[Face], planes: &PlaneBox, way: Way) -> LidSums
     ensures sx { (at : Fraction) → IsIn planes.now (upright at) → ContainsFraction 20 result.sx.lo result.sx.hi (lid_parts at way.first way.last (λ p. p.x) (λ p. one) faces.now ⊗ whole (pos 2)) }
     ensures syy { (at : Fraction) → IsIn planes.now (upright at) → ContainsFraction 20 result.syy.lo result.syy.hi (lid_parts at way.first way.last (λ p. p.y) (λ p. p.y) faces.now ⊗ whole (pos 2)) }
     ensures sxx { (at : Fraction) → IsIn planes.now (upright at) → ContainsFraction 20 result.sxx.lo result.sxx.hi (lid_parts at way.first way.last (λ p. p.x) (λ p. p.x) faces.now ⊗ whole (pos 2)) }
-    ensures area_ends { EndsLess (2 ^ 72) result.area.lo result.area.hi }
-    ensures sx_ends { EndsLess (2 ^ 93) result.sx.lo result.sx.hi }
-    ensures syy_ends { EndsLess (2 ^ 114) result.syy.lo result.syy.hi }
-    ensures sxx_ends { EndsLess (2 ^ 114) result.sxx.lo result.sxx.hi }
+    ensures area_ends { EndsAtMost (16383 * 2 ^ 58) result.area.lo result.area.hi }
+    ensures sx_ends { EndsAtMost (16383 * 2 ^ 79) result.sx.lo result.sx.hi }
+    ensures syy_ends { EndsAtMost (16383 * 2 ^ 100) result.syy.lo result.syy.hi }
+    ensures sxx_ends { EndsAtMost (16383 * 2 ^ 100) result.sxx.lo result.sxx.hi }
+    ensures widths { (d1 d2 half_breadth height : ℤ) → IsLevelBox planes.now d1 d2 → LieInside half_breadth height faces.now → AreLidWidths way.first way.last d1 d2 (whole way.last) (whole half_breadth) faces.now result }
+    ensures none { length faces.now ≡ 0 → ((result.area.lo ≡ pos 0) × (result.area.hi ≡ pos 0)) × ((result.sx.lo ≡ pos 0) × (result.sx.hi ≡ pos 0)) × ((result.syy.lo ≡ pos 0) × (result.syy.hi ≡ pos 0)) × ((result.sxx.lo ≡ pos 0) × (result.sxx.hi ≡ pos 0)) }
 {
     let none = nothing();
     let mut sums = LidSums {
@@ -111,7 +128,8 @@ fn seen_sums(faces: &[Face], planes: &PlaneBox, way: Way) -> LidSums
     sums
 }
 
-/// Twice the integrals over the wet part of a face as it is seen from above, each above 0 where the face points downwards.
+/// Twice the integrals over the wet part of a face as it is seen from above, each above 0 where the face points
+/// downwards.
 fn seen_part(face: &Face, planes: &PlaneBox, way: Way) -> LidSums
     requires face { IsFace face.now }
     requires between { AllByRecursion (λ n. (way.first ≤ℤ n.x) × (n.x ≤ℤ way.last)) face.now.p }
@@ -123,6 +141,7 @@ fn seen_part(face: &Face, planes: &PlaneBox, way: Way) -> LidSums
     ensures sx_ends { EndsAtMost (2 ^ 79) result.sx.lo result.sx.hi }
     ensures syy_ends { EndsAtMost (2 ^ 100) result.syy.lo result.syy.hi }
     ensures sxx_ends { EndsAtMost (2 ^ 100) result.sxx.lo result.sxx.hi }
+    ensures widths { (d1 d2 half_breadth height : ℤ) → IsLevelBox planes.now d1 d2 → AllByRecursion (IsInside half_breadth height) face.now.p → AreSeenWidths way.first way.last d1 d2 (whole way.last) (whole half_breadth) face.now result }
 {
     let [p, q, r] = face.p;
     let first = depth_of(planes, way, p);
@@ -153,19 +172,21 @@ fn seen(mean: Span<40>, area: i64) -> Span<20>
     requires area { MagnitudeBelow 37 area }
     ensures contains { (m : Fraction) → ContainsFraction 40 mean.lo mean.hi m → ContainsFraction 20 result.lo result.hi (m ⊗ whole area) }
     ensures ends { (most : ℕ) → EndsLess most mean.lo mean.hi → EndsAtMost (most * 2 ^ 17) result.lo result.hi }
+    ensures narrow { (w : Fraction) → IsNarrow 40 w mean.lo mean.hi → IsNarrow 20 (w ⊗ whole (pos (unsigned_abs area)) ⊕ units 20 2) result.lo result.hi }
 {
     mean.times_whole(i128::from(area)).rescale()
 }
 
-/// The mean of a linear function over the wet part of a triangle, by the means of the corners' coordinates and its values
-/// at the corners.
+/// The mean of a linear function over the wet part of a triangle, by the means of the corners' coordinates and its
+/// values at the corners.
 fn linear_mean(corner: &[Span<40>; 3], u: i64, v: i64, w: i64) -> Span<40>
     requires corner { AllByRecursion (λ s. EndsBelow 41 s.lo s.hi) corner.now }
     requires u { MagnitudeBelow 19 u }
     requires v { MagnitudeBelow 19 v }
     requires w { MagnitudeBelow 19 w }
     ensures ends { EndsLess (2 ^ 62) result.lo result.hi }
-    ensures contains { (h : List (span.Span 20)) (d : CornerDepths) → Each (Encloses 40 h) corner.now corner_means → AreWithin h d → ContainsFraction 40 result.lo result.hi (linear_at d (whole u) (whole v) (whole w)) }
+    ensures contains { (h : List (span.Span 20)) (d : CornerDepths) → Each (EnclosesMean 40 h) corner.now corner_means → AreWithin h d → ContainsFraction 40 result.lo result.hi (linear_at d (whole u) (whole v) (whole w)) }
+    ensures narrow { (x y z : span.Span 20) (l : Fraction) → Each (IsNoWider 40 16 (x ∷ y ∷ z ∷ [])) corner.now corner_means → whole (pos (unsigned_abs u)) ≼ l → whole (pos (unsigned_abs v)) ≼ l → whole (pos (unsigned_abs w)) ≼ l → IsNarrow 40 (l ⊗ (rise_between (x ∷ y ∷ z ∷ []) ⊕ units 40 48)) result.lo result.hi }
 {
     weighed_sum(corner[0], u, corner[1], v, corner[2], w)
 }
@@ -177,7 +198,8 @@ fn square_mean(pair: &[Span<40>; 6], u: i64, v: i64, w: i64) -> Span<40>
     requires v { MagnitudeBelow 19 v }
     requires w { MagnitudeBelow 19 w }
     ensures ends { EndsLess (2 ^ 83) result.lo result.hi }
-    ensures contains { (h : List (span.Span 20)) (d : CornerDepths) → Each (Encloses 40 h) pair.now pair_means → AreWithin h d → ContainsFraction 40 result.lo result.hi (square_at d (whole u) (whole v) (whole w)) }
+    ensures contains { (h : List (span.Span 20)) (d : CornerDepths) → Each (EnclosesMean 40 h) pair.now pair_means → AreWithin h d → ContainsFraction 40 result.lo result.hi (square_at d (whole u) (whole v) (whole w)) }
+    ensures narrow { (x y z : span.Span 20) (l : Fraction) → Each (IsNoWider 40 16 (x ∷ y ∷ z ∷ [])) pair.now pair_means → whole (pos (unsigned_abs u)) ≼ l → whole (pos (unsigned_abs v)) ≼ l → whole (pos (unsigned_abs w)) ≼ l → IsNarrow 40 ((l ⊗ l) ⊗ (rise_between (x ∷ y ∷ z ∷ []) ⊕ units 40 144)) result.lo result.hi }
 {
     let squares = weighed_sum(
         pair[0],
@@ -214,6 +236,7 @@ fn weighed_sum(
     requires w { MagnitudeBelow 38 w }
     ensures ends { (most : ℕ) → unsigned_abs u < most → unsigned_abs v < most → unsigned_abs w < most → EndsLess ((2 ^ 41 * most + 2 ^ 41 * most) + 2 ^ 41 * most) result.lo result.hi }
     ensures contains { (a b c : Fraction) → ContainsFraction 40 first.lo first.hi a → ContainsFraction 40 second.lo second.hi b → ContainsFraction 40 third.lo third.hi c → ContainsFraction 40 result.lo result.hi ((a ⊗ whole u ⊕ b ⊗ whole v) ⊕ c ⊗ whole w) }
+    ensures narrow { (a b c : Fraction) → IsNarrow 40 a first.lo first.hi → IsNarrow 40 b second.lo second.hi → IsNarrow 40 c third.lo third.hi → IsNarrow 40 ((a ⊗ whole (pos (unsigned_abs u)) ⊕ b ⊗ whole (pos (unsigned_abs v))) ⊕ c ⊗ whole (pos (unsigned_abs w))) result.lo result.hi }
 {
     weighed(first, u) + weighed(second, v) + weighed(third, w)
 }
@@ -223,6 +246,7 @@ fn weighed(mean: Span<40>, weight: i64) -> Span<40>
     requires weight { MagnitudeBelow 38 weight }
     ensures ends { (most : ℕ) → unsigned_abs weight < most → EndsLess (2 ^ 41 * most) result.lo result.hi }
     ensures contains { (m : Fraction) → ContainsFraction 40 mean.lo mean.hi m → ContainsFraction 40 result.lo result.hi (m ⊗ whole weight) }
+    ensures narrow { (w : Fraction) → IsNarrow 40 w mean.lo mean.hi → IsNarrow 40 (w ⊗ whole (pos (unsigned_abs weight))) result.lo result.hi }
 {
     mean.times_whole(i128::from(weight))
 }

@@ -15,6 +15,8 @@ use std::test::Fail;
 
 const UPRIGHT: Triple = Triple { c: 1, s: 0, r: 1 };
 
+const HEELED: Triple = Triple { c: 12, s: 5, r: 13 };
+
 const BARGE: &str = "\
 0 10000/0 10000/10000\n\
 50000 10000/0 10000/10000\n\
@@ -50,8 +52,12 @@ const LIMITS: &str = "\
 262143 65535/0 65535/65535\n\
 524287 65535/0 65535/65535";
 
-// Of each plane the levels in grid units at the first station and at the last, and of the volume, mx, mv and mu the floor
-// and the ceiling in units of 2^-20.
+// Heeled by the angle of cosine 12/13, of levels from one to the other: the volume and mv, their floor and ceiling.
+const BARGE_HEELED: &str = "\
+4726153 4726154 10485760000000000000 10485760000000000000 39302928774928774928774 39302928774928774928775";
+
+// Of each plane the levels in grid units at the first station and at the last, and of the volume, mx, mv and mu the
+// floor and the ceiling in units of 2^-20.
 const BARGE_BELOW: &str = "\
 5120000 5120000 10485760000000000000 10485760000000000000 524288000000000000000000 524288000000000000000000 0 0 26214400000000000000000 26214400000000000000000\n\
 4096000 6144000 10485760000000000000 10485760000000000000 559240533333333333333333 559240533333333333333334 0 0 26563925333333333333333 26563925333333333333334\n\
@@ -110,8 +116,8 @@ fn is_within(span: Span<20>, low: i128, high: i128, width: i128) -> bool {
     span.lo() <= low && high <= span.hi() && span.hi().saturating_sub(span.lo()) <= width
 }
 
-// Whether the spans hold the values and are narrow: no wider than eight times 2^-16 mm times the area, for the integrals
-// times the last x, and times 2^21 mm.
+// Whether the spans hold the values and are narrow: no wider than eight times 2^-16 mm times the area, for the
+// integrals times the last x, and times 2^21 mm.
 fn holds(wet: &Wet, cells: &[i128], area: i128, last_x: i128) -> bool {
     let width = area.saturating_mul(128);
     let far = width.saturating_mul(1 << 21);
@@ -151,6 +157,32 @@ fn check(
 #[test]
 fn the_barge_at_four_planes(rt: HostRuntime) -> Result<(), Fail> {
     check(&rt, rt.alloc(), BARGE, BARGE_BELOW, 6000131072, 100000)
+}
+
+// The area times eight times 65 · 2^-16 mm is W, but for the width of the cosine and the sine, which is 2^-40 at most.
+#[test]
+fn the_heeled_barge(rt: HostRuntime) -> Result<(), Fail> {
+    let faces = faces_from(rt.alloc(), BARGE)?.expect(&rt, "a hull");
+    for line in BARGE_HEELED.lines() {
+        let mut words = line.split(' ');
+        let low = words.next().expect(&rt, "a level").parse()?;
+        let high = words.next().expect(&rt, "a level").parse()?;
+        let mut cells = Vec::new(rt.alloc());
+        for word in words {
+            cells.push(word.parse()?)?;
+        }
+        let planes = PlaneBox::level(exact(HEELED), low, high).expect(&rt, "levels");
+        let wet = measure(&faces, &planes);
+        let width = 6000131072i128.saturating_mul(8321);
+        let far = width.saturating_mul(24616);
+        assert!(rt;
+            cells.len() == 4
+                && is_within(wet.volume, cells[0], cells[1], width)
+                && is_within(wet.mv, cells[2], cells[3], far),
+            "{line}"
+        );
+    }
+    Ok(())
 }
 
 #[test]

@@ -38,8 +38,8 @@ greatest_depths (x ∷ y ∷ z ∷ []) = record { first = in_unit 20 x.hi; secon
 greatest_depths _ = record { first = nought; second = nought; third = nought }
 
 -- the span contains the mean at all depths within the spans h
-abbrev pub Encloses : (F : ℕ) → List (Span 20) → Span F → Mean → Type 0
-Encloses F h span mean = (d : CornerDepths) → AreWithin h d → ContainsFraction F span.lo span.hi (mean_at mean d)
+abbrev pub EnclosesMean : (F : ℕ) → List (Span 20) → Span F → Mean → Type 0
+EnclosesMean F h span mean = (d : CornerDepths) → AreWithin h d → ContainsFraction F span.lo span.hi (mean_at mean d)
 
 -- the span is no wider than the mean at the greatest depths less that at the least, and so many units
 abbrev pub IsNoWider : (F extra : ℕ) → List (Span 20) → Span F → Mean → Type 0

@@ -1,5 +1,5 @@
--- The ends of the means at corner depths of whole units 2^-20 mm, in whole numbers. Shares and means of coordinates are in units of 2^-40,
--- depths in those of 2^-20 mm. `up` says whether a number is rounded up.
+-- A model of the private functions: the ends of the means at corner depths of whole units 2^-20 mm, in whole numbers. Shares and means of
+-- coordinates are in units of 2^-40, depths in those of 2^-20 mm. `up` says whether a number is rounded up.
 use Rattle.std.specs.Prelude.{◌≡◌, ℕ, zero, suc, ◌+◌, ◌-◌, ◌*◌, ◌/◌, ◌^◌, ◌<◌, ◌≤◌, ℤ, pos, negsuc, ◌+ℤ◌, unsigned_abs, Bool, true, false, List, [], ◌∷◌}
 use Rattle.outward_interval.specs.declared.span.Span.{Span}
 use Rattle.std.specs.Int.{int_div_euclid, div_ceil}
@@ -9,9 +9,9 @@ use Rattle.plane_clip.specs.declared.shares.Shares.{Shares}
 abbrev pub Near : ℤ → Type 0
 Near x = unsigned_abs x < 2 ^ 41
 
--- four numbers below 2^43 in magnitude
+-- a mean depth below 2^42 in magnitude, and three weighted means below 2^41
 abbrev pub AreSmall : ℤ → ℤ → ℤ → ℤ → Type 0
-AreSmall d f s t = (unsigned_abs d < 2 ^ 43) × (unsigned_abs f < 2 ^ 43) × (unsigned_abs s < 2 ^ 43) × (unsigned_abs t < 2 ^ 43)
+AreSmall d f s t = (unsigned_abs d < 2 ^ 42) × (unsigned_abs f < 2 ^ 41) × (unsigned_abs s < 2 ^ 41) × (unsigned_abs t < 2 ^ 41)
 
 abbrev pub is_over : ℤ → Bool
 is_over (pos zero) = false

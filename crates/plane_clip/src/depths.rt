@@ -37,7 +37,7 @@ struct Tip {
     first: u64,
     second: u64,
     third: u64,
-    ghost small: { (depth < 2 ^ 43) × (first < 2 ^ 46) × (second < 2 ^ 46) × (third < 2 ^ 46) },
+    ghost small: { (depth < 2 ^ 42) × (first < 2 ^ 43 + 2 ^ 9) × (second < 2 ^ 43 + 2 ^ 9) × (third < 2 ^ 43 + 2 ^ 9) },
 }
 
 const NO_TIP: Tip = Tip {
@@ -87,10 +87,10 @@ fn tip_of(a: u64, t: u64, s: u64, up: bool) -> Tip
 
 #[inline(always)]
 fn third_of(whole: i64, tip: u64, up: bool) -> i64
-    requires whole { unsigned_abs whole < 2 ^ 43 }
-    requires tip { tip < 2 ^ 43 }
+    requires whole { unsigned_abs whole < 3 * 2 ^ 41 }
+    requires tip { tip < 2 ^ 42 }
     ensures value { result ≡ quotient_of_sum up 3 whole tip }
-    ensures small { unsigned_abs result < 2 ^ 43 }
+    ensures small { unsigned_abs result < 2 ^ 42 }
 {
     if up {
         (whole + tip as i64 + 2).div_euclid(3)
@@ -101,10 +101,10 @@ fn third_of(whole: i64, tip: u64, up: bool) -> i64
 
 #[inline(always)]
 fn twelfth_of(whole: i64, tip: u64, up: bool) -> i64
-    requires whole { unsigned_abs whole < 2 ^ 44 }
-    requires tip { tip < 2 ^ 46 }
+    requires whole { unsigned_abs whole < 2 ^ 43 }
+    requires tip { tip < 2 ^ 43 + 2 ^ 9 }
     ensures value { result ≡ quotient_of_sum up 12 whole tip }
-    ensures small { unsigned_abs result < 2 ^ 43 }
+    ensures small { unsigned_abs result < 2 ^ 41 }
 {
     if up {
         (whole + tip as i64 + 11).div_euclid(12)
@@ -117,17 +117,17 @@ fn twelfth_of(whole: i64, tip: u64, up: bool) -> i64
 fn sum(x: i64, y: i64, z: i64) -> i64
     requires near { Near x × Near y × Near z }
     ensures value { result ≡ sum_of x y z }
-    ensures small { unsigned_abs result < 2 ^ 43 }
+    ensures small { unsigned_abs result < 3 * 2 ^ 41 }
 {
     x + y + z
 }
 
 #[inline(always)]
 fn plus(sum: i64, x: i64) -> i64
-    requires sum { unsigned_abs sum < 2 ^ 43 }
+    requires sum { unsigned_abs sum < 3 * 2 ^ 41 }
     requires near { Near x }
     ensures value { result ≡ sum +ℤ x }
-    ensures small { unsigned_abs result < 2 ^ 44 }
+    ensures small { unsigned_abs result < 2 ^ 43 }
 {
     sum + x
 }

@@ -17,7 +17,7 @@ pub(crate) fn scaled(x: u64, y: u64, up: bool) -> u64
     requires second { y ≤ 2 ^ 43 }
     ensures value { result ≡ scale up x y }
     ensures small { y ≤ 2 ^ 40 + 1 → result ≤ x + 2 ^ 5 }
-    ensures most { result ≤ 8 * x + 1 }
+    ensures most { y ≤ 2 ^ 42 → result ≤ 4 * x + 1 }
 {
     let floor = (u128::from(x) * u128::from(y) >> 40) as u64;
     if up { floor + 1 } else { floor }

@@ -5,7 +5,7 @@ ghost use Rattle.exact_fraction.specs.Bounds.{MagnitudeBelow};
 ghost use Rattle.outward_interval.specs.Ends.{EndsBelow};
 ghost use Rattle.hull_model.specs.WetMean.{wet_share, wet_depth};
 ghost use Rattle.plane_clip.specs.Rounded.{Near, SharesOrdered, share_ends, depth_ends, AreEndsOf, AreEachEnds, corners_of, pairs_of, weighted_of};
-ghost use Rattle.plane_clip.specs.Enclosure.{Encloses, IsNoWider, Each, corner_means, pair_means, weighted_means};
+ghost use Rattle.plane_clip.specs.Enclosure.{EnclosesMean, IsNoWider, Each, corner_means, pair_means, weighted_means};
 
 use crate::depths::Depths;
 use crate::means::{depths_at, means_at};
@@ -37,19 +37,19 @@ pub struct WetDepths {
     pub weighted: [Span<20>; 3],
 }
 
-/// Encloses the means over the wet part for all corner depths within the spans, which lie below 2^21 mm in
+/// EnclosesMean the means over the wet part for all corner depths within the spans, which lie below 2^21 mm in
 /// magnitude.
 ///
 /// Each field is no wider than its exact mean at the greatest depths less that at the least, plus 2^-36 for
-/// `share`, `corner` and `pair`, and 2^-17 mm for `depth` and `weighted`. The ends of the first three are below 2^41
-/// in magnitude, those of the last two below 2^43.
+/// `share`, `corner` and `pair`, and 2^-17 mm for `depth` and `weighted`. The ends of `depth` are below 2^42 units in
+/// magnitude, all others below 2^41.
 pub fn wet(h: [Span<20>; 3]) -> WetShare
     requires near { AllByRecursion (λ s. EndsBelow 41 s.lo s.hi) h }
-    ensures share { Encloses 40 h result.share wet_share }
-    ensures corner { Each (Encloses 40 h) result.corner corner_means }
-    ensures pair { Each (Encloses 40 h) result.pair pair_means }
-    ensures depth { Encloses 20 h result.depth wet_depth }
-    ensures weighted { Each (Encloses 20 h) result.weighted weighted_means }
+    ensures share { EnclosesMean 40 h result.share wet_share }
+    ensures corner { Each (EnclosesMean 40 h) result.corner corner_means }
+    ensures pair { Each (EnclosesMean 40 h) result.pair pair_means }
+    ensures depth { EnclosesMean 20 h result.depth wet_depth }
+    ensures weighted { Each (EnclosesMean 20 h) result.weighted weighted_means }
     ensures share_width { IsNoWider 40 16 h result.share wet_share }
     ensures corner_width { Each (IsNoWider 40 16 h) result.corner corner_means }
     ensures pair_width { Each (IsNoWider 40 16 h) result.pair pair_means }
@@ -58,21 +58,21 @@ pub fn wet(h: [Span<20>; 3]) -> WetShare
     ensures share_bounded { EndsBelow 41 result.share.lo result.share.hi }
     ensures corner_bounded { AllByRecursion (λ s. EndsBelow 41 s.lo s.hi) result.corner }
     ensures pair_bounded { AllByRecursion (λ s. EndsBelow 41 s.lo s.hi) result.pair }
-    ensures depth_bounded { EndsBelow 43 result.depth.lo result.depth.hi }
-    ensures weighted_bounded { AllByRecursion (λ s. EndsBelow 43 s.lo s.hi) result.weighted }
+    ensures depth_bounded { EndsBelow 42 result.depth.lo result.depth.hi }
+    ensures weighted_bounded { AllByRecursion (λ s. EndsBelow 41 s.lo s.hi) result.weighted }
 {
     wet_of(h[0], h[1], h[2])
 }
 
-/// Encloses the means of the depth alone, as [`wet`] does, at less cost.
+/// EnclosesMean the means of the depth alone, as [`wet`] does, at less cost.
 pub fn wet_depths(h: [Span<20>; 3]) -> WetDepths
     requires near { AllByRecursion (λ s. EndsBelow 41 s.lo s.hi) h }
-    ensures depth { Encloses 20 h result.depth wet_depth }
-    ensures weighted { Each (Encloses 20 h) result.weighted weighted_means }
+    ensures depth { EnclosesMean 20 h result.depth wet_depth }
+    ensures weighted { Each (EnclosesMean 20 h) result.weighted weighted_means }
     ensures depth_width { IsNoWider 20 8 h result.depth wet_depth }
     ensures weighted_width { Each (IsNoWider 20 8 h) result.weighted weighted_means }
-    ensures depth_bounded { EndsBelow 43 result.depth.lo result.depth.hi }
-    ensures weighted_bounded { AllByRecursion (λ s. EndsBelow 43 s.lo s.hi) result.weighted }
+    ensures depth_bounded { EndsBelow 42 result.depth.lo result.depth.hi }
+    ensures weighted_bounded { AllByRecursion (λ s. EndsBelow 41 s.lo s.hi) result.weighted }
 {
     wet_depths_of(h[0], h[1], h[2])
 }
@@ -87,8 +87,8 @@ fn wet_of(x: Span<20>, y: Span<20>, z: Span<20>) -> WetShare
     ensures share_bounded { EndsBelow 41 result.share.lo result.share.hi }
     ensures corner_bounded { AllByRecursion (λ s. EndsBelow 41 s.lo s.hi) result.corner }
     ensures pair_bounded { AllByRecursion (λ s. EndsBelow 41 s.lo s.hi) result.pair }
-    ensures depth_bounded { EndsBelow 43 result.depth.lo result.depth.hi }
-    ensures weighted_bounded { AllByRecursion (λ s. EndsBelow 43 s.lo s.hi) result.weighted }
+    ensures depth_bounded { EndsBelow 42 result.depth.lo result.depth.hi }
+    ensures weighted_bounded { AllByRecursion (λ s. EndsBelow 41 s.lo s.hi) result.weighted }
 {
     let low = means_at(lower(x), lower(y), lower(z), false);
     let high = means_at(upper(x), upper(y), upper(z), true);
@@ -108,8 +108,8 @@ fn wet_depths_of(x: Span<20>, y: Span<20>, z: Span<20>) -> WetDepths
     requires near { EndsBelow 41 x.lo x.hi × EndsBelow 41 y.lo y.hi × EndsBelow 41 z.lo z.hi }
     ensures depth { AreEndsOf 20 result.depth (depth_ends false x.lo y.lo z.lo).depth (depth_ends true x.hi y.hi z.hi).depth }
     ensures weighted { AreEachEnds 20 result.weighted (weighted_of (depth_ends false x.lo y.lo z.lo)) (weighted_of (depth_ends true x.hi y.hi z.hi)) }
-    ensures depth_bounded { EndsBelow 43 result.depth.lo result.depth.hi }
-    ensures weighted_bounded { AllByRecursion (λ s. EndsBelow 43 s.lo s.hi) result.weighted }
+    ensures depth_bounded { EndsBelow 42 result.depth.lo result.depth.hi }
+    ensures weighted_bounded { AllByRecursion (λ s. EndsBelow 41 s.lo s.hi) result.weighted }
 {
     let low = depths_at(lower(x), lower(y), lower(z), false);
     let high = depths_at(upper(x), upper(y), upper(z), true);

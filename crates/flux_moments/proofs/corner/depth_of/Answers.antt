@@ -5,6 +5,8 @@ use Rattle.exact_algebra.proofs.Whole.{whole}
 use Rattle.outward_interval.specs.Laws.{difference_contains}
 use Rattle.hull_model.specs.Waterplane.{position_of, height, level_at}
 use Rattle.flux_moments.proofs.Heights.{place_fits}
+use Rattle.flux_moments.proofs.BoxWidths.{depth_narrow, depth_near}
+use Rattle.flux_moments.proofs.LevelEnds.{depth_same}
 use Rattle.flux_moments.proofs.corner.depth_of.Goals as goal
 
 pub returns-clause-contains : goal.returns-clause-contains
@@ -13,4 +15,24 @@ returns-clause-contains c plane h =
     let high = c.height_of in
     let x : SFits w64 c.args.node.x = place_fits c.args.node c.requires.node in
     difference_contains 20 level.result.lo level.result.hi high.result.lo high.result.hi c.sub.result.lo c.sub.result.hi
-    (level_at plane c.args.way.first c.args.way.last (whole c.args.node.x)) (height plane (position_of c.args.node)) c.sub.ensures (simp to_z-of_z at (level.ensures.contains plane h)) (high.ensures.contains plane h.direction)
+    (level_at plane c.args.way.first c.args.way.last (whole c.args.node.x)) (height plane (position_of c.args.node)) c.sub.ensures
+    (simp to_z-of_z at (level.ensures.contains plane h)) (high.ensures.contains plane h.direction)
+
+pub returns-clause-narrow : goal.returns-clause-narrow
+returns-clause-narrow c b h is reached =
+    let level = c.levels_at in
+    let high = c.height_of in
+    depth_narrow c.args.planes.now b is h c.args.node reached level.result high.result c.sub.result c.sub.result c.sub.result
+    (level.ensures.narrow b.rise is.aft is.fore) (level.ensures.near b.level is.aft_level is.fore_level)
+    (high.ensures.narrow b.turn is.cosine is.sine) high.ensures.near c.sub.ensures
+
+pub returns-clause-near : goal.returns-clause-near
+returns-clause-near c b h is reached =
+    let level = c.levels_at in
+    let high = c.height_of in
+    depth_near c.args.planes.now b is h c.args.node reached level.result high.result c.sub.result c.sub.result c.sub.result
+    (level.ensures.narrow b.rise is.aft is.fore) (level.ensures.near b.level is.aft_level is.fore_level)
+    (high.ensures.narrow b.turn is.cosine is.sine) high.ensures.near c.sub.ensures
+
+pub returns-clause-level : goal.returns-clause-level
+returns-clause-level c d1 d2 is = depth_same (c.levels_at.ensures.level d1 d2 is.aft is.fore) (c.height_of.ensures.upright is.cosine is.sine) c.sub.ensures

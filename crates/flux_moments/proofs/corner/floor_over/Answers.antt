@@ -3,7 +3,7 @@ use Rattle.std.proofs.lemmas.Int.{ints, to_z-of_z}
 use Rattle.std.specs.Int.{w64}
 use mir.Val.{SFits}
 use Rattle.outward_interval.proofs.Quotients.{floor_by_division}
-use Rattle.flux_moments.proofs.Levels.{floor-small}
+use Rattle.flux_moments.proofs.QuotientSizes.{floor-size}
 use Rattle.flux_moments.proofs.corner.floor_over.Goals as goal
 
 pub returns-clause-floor : goal.returns-clause-floor
@@ -21,5 +21,5 @@ returns-clause-small c =
     let z : SFits w64 c.div_euclid.result = search rules in
     let value = simp to_z-of_z at c.div_euclid.ensures in
     let some : 0 < unsigned_abs c.args.length = omega (arith, ints, c.requires.length.0) in
-    simp to_z-of_z (floor-small c.args.n c.div_euclid.result (unsigned_abs c.args.length) (2 ^ 40) some c.requires.size
+    simp to_z-of_z (floor-size c.args.n c.div_euclid.result (unsigned_abs c.args.length) (2 ^ 40) some c.requires.size
     (floor_by_division c.args.n c.args.length c.div_euclid.result c.requires.length.0 value))

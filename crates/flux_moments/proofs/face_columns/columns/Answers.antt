@@ -1,8 +1,13 @@
-use Rattle.std.proofs.Common.{◌∙◌, subst}
+use Rattle.std.proofs.Common.{◌∙◌, ◌+◌, unsigned_abs, subst}
+use Rattle.exact_algebra.proofs.Whole.{whole}
+use Rattle.hull_polyhedron.specs.Between.{IsBetween}
+use Rattle.flux_moments.specs.Sizes.{Reaches, spread, doubled_area}
+use Rattle.flux_moments.proofs.FaceAreas.{three_corners}
 use Rattle.exact_algebra.proofs.Fraction.{Fraction}
 use Rattle.exact_algebra.proofs.Span.{ContainsFraction}
 use Rattle.hull_model.specs.Waterplane.{side_distance}
 use Rattle.flux_moments.proofs.FaceColumns.{depths, doubled_seen, volume_doubled, moment_doubled, height_moment, renamed_places}
+use Rattle.flux_moments.proofs.BoxWidths.{column_sizes, far_at_most}
 use Rattle.flux_moments.proofs.face_columns.columns.Goals as goal
 
 pub returns-clause-volume : goal.returns-clause-volume
@@ -10,7 +15,8 @@ returns-clause-volume c plane is =
     let first = c.args.way.first in
     let last = c.args.way.last in
     let face = c.args.face.now in
-    subst (λ (x : Fraction). ContainsFraction 20 c.columns_at.result.volume.lo c.columns_at.result.volume.hi x) (volume_doubled plane first last face c.requires.face)
+    subst (λ (x : Fraction). ContainsFraction 20 c.columns_at.result.volume.lo c.columns_at.result.volume.hi x)
+    (volume_doubled plane first last face c.requires.face)
     (c.columns_at.ensures.volume (depths plane first last face c.requires.face) (doubled_seen plane first last face c.requires.face)
     (c.of-first.ensures.depth plane is, c.of-second.ensures.depth plane is, c.of-third.ensures.depth plane is) (c.factor_of.ensures.contains plane is))
 
@@ -19,7 +25,8 @@ returns-clause-mv c plane is =
     let first = c.args.way.first in
     let last = c.args.way.last in
     let face = c.args.face.now in
-    subst (λ (x : Fraction). ContainsFraction 20 c.columns_at.result.mv.lo c.columns_at.result.mv.hi x) (moment_doubled plane first last face c.requires.face (side_distance plane))
+    subst (λ (x : Fraction). ContainsFraction 20 c.columns_at.result.mv.lo c.columns_at.result.mv.hi x)
+    (moment_doubled plane first last face c.requires.face (side_distance plane))
     (c.columns_at.ensures.mv (depths plane first last face c.requires.face) (doubled_seen plane first last face c.requires.face) _ _ _
     (c.of-first.ensures.depth plane is, c.of-second.ensures.depth plane is, c.of-third.ensures.depth plane is) (c.factor_of.ensures.contains plane is)
     (c.of-first.ensures.side plane is) (c.of-second.ensures.side plane is) (c.of-third.ensures.side plane is))
@@ -40,7 +47,27 @@ returns-clause-mx c plane is =
     let last = c.args.way.last in
     let face = c.args.face.now in
     subst (λ (x : Fraction). ContainsFraction 20 c.columns_at.result.mx.lo c.columns_at.result.mx.hi x)
-    (renamed_places (depths plane first last face c.requires.face) (doubled_seen plane first last face c.requires.face) c.of-first.ensures.x c.of-second.ensures.x c.of-third.ensures.x
+    (renamed_places (depths plane first last face c.requires.face) (doubled_seen plane first last face c.requires.face) c.of-first.ensures.x
+    c.of-second.ensures.x c.of-third.ensures.x
     ∙ moment_doubled plane first last face c.requires.face (λ p. p.x))
     (c.columns_at.ensures.mx (depths plane first last face c.requires.face) (doubled_seen plane first last face c.requires.face)
     (c.of-first.ensures.depth plane is, c.of-second.ensures.depth plane is, c.of-third.ensures.depth plane is) (c.factor_of.ensures.contains plane is))
+
+pub returns-clause-widths : goal.returns-clause-widths
+returns-clause-widths c b h is some reached =
+    let face = c.args.face.now in
+    let first = c.args.way.first in
+    let last = c.args.way.last in
+    let each = three_corners (Reaches b h) face c.requires.face reached in
+    let placed = three_corners (IsBetween first last) face c.requires.face c.requires.between in
+    c.columns_at.ensures.widths (whole last) (spread b h) h (doubled_area face) b.turn (record {
+      sizes = column_sizes c.args.planes.now b is h some (unsigned_abs face.ay + unsigned_abs face.az);
+      first_size = c.of-first.ensures.size b h is each.0;
+      second_size = c.of-second.ensures.size b h is each.1;
+      third_size = c.of-third.ensures.size b h is each.2;
+      factor_width = c.factor_of.ensures.narrow b.turn is.cosine is.sine;
+      factor_reach = c.factor_of.ensures.near;
+    })
+    (far_at_most first last _ _ c.args.way.start.0 placed.0 c.of-first.ensures.x)
+    (far_at_most first last _ _ c.args.way.start.0 placed.1 c.of-second.ensures.x)
+    (far_at_most first last _ _ c.args.way.start.0 placed.2 c.of-third.ensures.x)

@@ -5,6 +5,7 @@ use Rattle.exact_algebra.proofs.Whole.{whole}
 use Rattle.outward_interval.specs.Laws.{sum_contains, difference_contains}
 use Rattle.hull_model.specs.Waterplane.{position_of, height, level_at}
 use Rattle.flux_moments.proofs.Heights.{place_fits}
+use Rattle.flux_moments.proofs.BoxWidths.{corner_size}
 use Rattle.flux_moments.proofs.corner.Corner.of.Goals as goal
 
 pub returns-clause-depth : goal.returns-clause-depth
@@ -13,7 +14,8 @@ returns-clause-depth c plane h =
     let high = c.height_of-height in
     let x : SFits w64 c.args.node.x = place_fits c.args.node c.requires.node in
     difference_contains 20 level.result.lo level.result.hi high.result.lo high.result.hi c.sub.result.lo c.sub.result.hi
-    (level_at plane c.args.way.first c.args.way.last (whole c.args.node.x)) (height plane (position_of c.args.node)) c.sub.ensures (simp to_z-of_z at (level.ensures.contains plane h)) (high.ensures.contains plane h.direction)
+    (level_at plane c.args.way.first c.args.way.last (whole c.args.node.x)) (height plane (position_of c.args.node)) c.sub.ensures
+    (simp to_z-of_z at (level.ensures.contains plane h)) (high.ensures.contains plane h.direction)
 
 pub returns-clause-side : goal.returns-clause-side
 returns-clause-side c plane h = c.side_of.ensures.contains plane h.direction
@@ -24,4 +26,14 @@ returns-clause-middle c plane h =
     let high = c.height_of-height in
     let x : SFits w64 c.args.node.x = place_fits c.args.node c.requires.node in
     sum_contains 20 level.result.lo level.result.hi high.result.lo high.result.hi c.add.result.lo c.add.result.hi
-    (level_at plane c.args.way.first c.args.way.last (whole c.args.node.x)) (height plane (position_of c.args.node)) c.add.ensures (simp to_z-of_z at (level.ensures.contains plane h)) (high.ensures.contains plane h.direction)
+    (level_at plane c.args.way.first c.args.way.last (whole c.args.node.x)) (height plane (position_of c.args.node)) c.add.ensures
+    (simp to_z-of_z at (level.ensures.contains plane h)) (high.ensures.contains plane h.direction)
+
+pub returns-clause-size : goal.returns-clause-size
+returns-clause-size c b h is reached =
+    let level = c.levels_at-level in
+    let high = c.height_of-height in
+    corner_size c.args.planes.now b is h c.args.node reached level.result high.result c.sub.result c.side_of.result c.add.result
+    (level.ensures.narrow b.rise is.aft is.fore) (level.ensures.near b.level is.aft_level is.fore_level)
+    (high.ensures.narrow b.turn is.cosine is.sine) high.ensures.near
+    c.sub.ensures c.add.ensures (c.side_of.ensures.narrow b.turn is.cosine is.sine) c.side_of.ensures.near
