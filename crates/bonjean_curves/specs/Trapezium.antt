@@ -1,4 +1,4 @@
--- The strip between two points is a trapezium on its side.
+-- A model of the private functions of `strip`: the strip between two points is a trapezium on its side.
 use Rattle.std.specs.Prelude.{ℕ, ◌+◌, ◌-◌, ◌*◌}
 
 -- three times the moment of its full breadth, divided by its rise

@@ -1,4 +1,4 @@
--- The inverse of a product; a factor that stands above and below is left out.
+-- The inverse of a product, of a whole number and of an inverse.
 use mathlib.Core.Path.{◌≡◌, refl, ◌∙◌, ap}
 use mathlib.Core.List.{[], ◌∷◌}
 use Prim.Native.Nat.{ℕ, ◌*◌, ◌<◌}
@@ -25,10 +25,3 @@ pub inverse-inverse : (x : Fraction) → sign x ≡ above → inverse (inverse x
 inverse-inverse x o = ring_from fraction_ring (x ∷ inverse x ∷ inverse (inverse x) ∷ [])
     ((opposite (var 2), var 0 :* var 1, unit) ∷ (var 0, var 1 :* var 2, unit) ∷ [])
     (given (Bounds.mul-inverse_positive fractions o) (given (Bounds.mul-inverse_positive fractions (Bounds.positive-inverse fractions o)) none)) (var 2) (var 0) refl
-
--- the quotient of two numbers in the same units
-pub cancelled : (m v u : Fraction) → sign v ≡ above → sign u ≡ above → (m ⊗ u) ⊗ inverse (v ⊗ u) ≡ m ⊗ inverse v
-cancelled m v u o n = ring_from fraction_ring (m ∷ v ∷ u ∷ inverse v ∷ inverse (v ⊗ u) ∷ [])
-    ((opposite (var 0 :* var 2 :* var 4), var 1 :* var 3, unit) ∷ (var 0 :* var 3, (var 1 :* var 2) :* var 4, unit) ∷ [])
-    (given (Bounds.mul-inverse_positive fractions o) (given (Bounds.mul-inverse_positive fractions (Order.positive-mul fractions o n)) none))
-    ((var 0 :* var 2) :* var 4) (var 0 :* var 3) refl

@@ -1,5 +1,5 @@
 pub mod QuotientEnds
-pub mod WholeUnits
+pub mod LongDivision
 pub mod CoarseEnds
 pub mod MomentEnds
 pub mod Inverses

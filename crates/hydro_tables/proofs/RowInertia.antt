@@ -9,7 +9,7 @@ use Rattle.hydro_tables.specs.Figures as figure
 use Rattle.hydro_tables.specs.Figures.{Integrals}
 use Rattle.hydro_tables.specs.Row.{Holds, HoldsIfThere}
 use Rattle.hydro_tables.proofs.FigureLaws.{about_centre, mct_is}
-use Rattle.hydro_tables.proofs.RowQuotients.{one_unit, IsAboveNought, positive_held, positive_in_units, HoldsQuotients, unit_quotient_holds, first_of_both}
+use Rattle.hydro_tables.proofs.RowQuotients.{IsAboveNought, positive_held, HoldsQuotients, quotient_holds, first_of_both}
 
 module _ (i : Integrals) where
   abbrev pub inertia_of : Fraction
@@ -26,7 +26,7 @@ module _ (i : Integrals) where
 
   module _ (volume area both bml : Option (Span 20)) (inertia : Span 20)
       (are_both : IsNone both ↔ (IsNone volume ⊎ IsNone area)) (is_there : IsNone bml ↔ IsNone both)
-      (above : IfSome volume IsAboveNought) (holds : HoldsIfThere volume (i.volume ⊗ one_unit)) (about : IfSome area (λ _. Holds inertia inertia_of)) where
+      (above : IfSome volume IsAboveNought) (holds : HoldsIfThere volume i.volume) (about : IfSome area (λ _. Holds inertia inertia_of)) where
     -- where there is a metacentre, there are both a volume and an area
     there_is_area : (s : Span 20) → bml ≡ Some s → Holds inertia inertia_of
     there_is_area s e = go area (λ n. true≢false (subst (λ (o : Option (Span 20)). IsNone o) e (is_there.1 (are_both.1 (inr n))))) about
@@ -35,12 +35,11 @@ module _ (i : Integrals) where
         go None n h = absurd (n refl)
         go (Some d) n h = h
 
-    pub bml_holds : (units : Span 20) → IfSome both (λ d. volume ≡ Some d) → HoldsQuotients both units bml → ((q : Fraction) → Holds inertia q → Holds units (q ⊗ one_unit)) → HoldsIfThere bml (figure.bml i)
-    bml_holds units first quotients in_units = go bml refl
+    pub bml_holds : IfSome both (λ d. volume ≡ Some d) → HoldsQuotients both inertia bml → HoldsIfThere bml (figure.bml i)
+    bml_holds first quotients = go bml refl
       where
         taken : (s : Span 20) → bml ≡ Some s → HoldsIfThere bml (figure.bml i)
-        taken s e = unit_quotient_holds both bml units inertia_of i.volume is_there quotients (first_of_both IsAboveNought volume both first above)
-            (in_units inertia_of (there_is_area s e)) (first_of_both (λ d. Holds d (i.volume ⊗ one_unit)) volume both first holds)
+        taken s e = quotient_holds both bml inertia inertia_of i.volume quotients (there_is_area s e) (first_of_both (λ d. Holds d i.volume) volume both first holds)
 
         go : (o : Option (Span 20)) → bml ≡ o → HoldsIfThere o (figure.bml i)
         go None e = tt
@@ -52,7 +51,7 @@ module _ (i : Integrals) where
     mct_holds water None n contains = tt
     mct_holds water (Some s) n contains = go bml volume refl refl holds above
       where
-        go : (b v : Option (Span 20)) → bml ≡ b → volume ≡ v → HoldsIfThere v (i.volume ⊗ one_unit) → IfSome v IsAboveNought → Holds s (figure.mct i water)
+        go : (b v : Option (Span 20)) → bml ≡ b → volume ≡ v → HoldsIfThere v i.volume → IfSome v IsAboveNought → Holds s (figure.mct i water)
         go None v e f h o = absurd (true≢false (n.1 (ap is_some e)))
         go (Some b) None e f h o = absurd (true≢false (n.1 (is_there.1 (are_both.1 (inl (ap is_some f))))))
-        go (Some b) (Some d) e f h o = subst (λ (q : Fraction). Holds s q) (mct_is i water (positive_in_units d i.volume o h) water.limits.some_length) (contains inertia_of (there_is_area b e))
+        go (Some b) (Some d) e f h o = subst (λ (q : Fraction). Holds s q) (mct_is i water (positive_held d i.volume o h) water.limits.some_length) (contains inertia_of (there_is_area b e))

@@ -42,18 +42,18 @@ pub record HoldsFigures (i : Integrals) (water : Water) (row : HydroRow) : Type 
   pub mct : HoldsIfThere row.mct (figure.mct i water)
 
 -- the span may hold nothing above 0
-abbrev pub IsNothing : Span 20 → Type 0
-IsNothing s = s.lo ≤ℤ pos 0
+abbrev pub IsNoDivisor : Span 20 → Type 0
+IsNoDivisor s = s.lo ≤ℤ pos 0
 
 -- quotients are absent exactly where what they divide by may be nothing
 pub record IsAbsentExactly (row : HydroRow) : Type 0 where
-  pub lcb : IsNone row.lcb ↔ IsNothing row.volume
-  pub kb : IsNone row.kb ↔ IsNothing row.volume
-  pub lcf : IsNone row.lcf ↔ IsNothing row.area
-  pub bmt : IsNone row.bmt ↔ IsNothing row.volume
-  pub bml : IsNone row.bml ↔ (IsNothing row.volume ⊎ IsNothing row.area)
-  pub kmt : IsNone row.kmt ↔ IsNothing row.volume
-  pub mct : IsNone row.mct ↔ (IsNothing row.volume ⊎ IsNothing row.area)
+  pub lcb : IsNone row.lcb ↔ IsNoDivisor row.volume
+  pub kb : IsNone row.kb ↔ IsNoDivisor row.volume
+  pub lcf : IsNone row.lcf ↔ IsNoDivisor row.area
+  pub bmt : IsNone row.bmt ↔ IsNoDivisor row.volume
+  pub bml : IsNone row.bml ↔ (IsNoDivisor row.volume ⊎ IsNoDivisor row.area)
+  pub kmt : IsNone row.kmt ↔ IsNoDivisor row.volume
+  pub mct : IsNone row.mct ↔ (IsNoDivisor row.volume ⊎ IsNoDivisor row.area)
 
 abbrev pub IsBounded : Span 20 → Type 0
 IsBounded s = EndsBelow 96 s.lo s.hi

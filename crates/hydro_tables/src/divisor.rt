@@ -1,23 +1,32 @@
 // What quotients are taken by.
-ghost use Rattle.std.specs.Prelude.{◌≡◌, ◌≤◌, ◌<◌, ◌^◌, ◌+◌, ◌*◌, ◌*ℤ◌, ◌<ℤ◌, ◌≤ℤ◌, ◌↔◌, ◌⊎◌, pos, Some, List, IfSome, IsNone, IsTrue, unsigned_abs};
+ghost use Rattle.std.specs.Prelude.{◌≡◌, ◌≤◌, ◌<◌, ◌^◌, ◌+◌, ◌*ℤ◌, ◌<ℤ◌, ◌≤ℤ◌, ◌↔◌, ◌⊎◌, pos, Some, List, IfSome, IsNone, IsTrue, unsigned_abs};
 ghost use Rattle.std.specs.List.{AllByRecursion};
 ghost use Rattle.exact_algebra.proofs.Fraction.{Fraction, ◌⊗◌, inverse};
 ghost use Rattle.exact_algebra.proofs.Span.{ContainsFraction};
-ghost use Rattle.exact_algebra.proofs.Whole.{whole};
 ghost use Rattle.flux_moments.specs.Limits.{EndsAtMost};
 ghost use Rattle.exact_fraction.specs.Bounds.{MagnitudeBelow};
 ghost use Rattle.outward_interval.specs.Ends.{EndsBelow};
 ghost use Rattle.hydro_tables.specs.Bounds.{IsSmallBeside};
 
+use crate::long_division::over;
 use outward_interval::Span;
 
-/// The divisor, where it lies above 0 and each moment is so small beside it that no quotient reaches 2^`reach`.
-pub(crate) fn divisor_for(divisor: Span<20>, moments: &[Span<20>], reach: u32) -> Option<Span<20>>
+/// The divisor, where its lower end is at least `least` units and each moment is so small beside it that no quotient
+/// reaches 2^`reach`.
+pub(crate) fn divisor_for(
+    divisor: Span<20>,
+    least: i128,
+    moments: &[Span<20>],
+    reach: u32,
+) -> Option<Span<20>>
+    requires least { pos 1 ≤ℤ least }
     requires reach { reach ≤ 80 }
+    requires size { EndsBelow 96 divisor.lo divisor.hi }
     ensures same { IfSome result (λ d. (d ≡ divisor) × (pos 1 ≤ℤ d.lo)) }
+    ensures size { IfSome result (λ d. EndsBelow 96 d.lo d.hi) }
     ensures small { IfSome result (λ d. AllByRecursion (IsSmallBeside reach d) moments.now) }
 {
-    if 1 <= divisor.lo() && are_small_beside(moments, divisor, reach) {
+    if least <= divisor.lo() && are_small_beside(moments, divisor, reach) {
         Some(divisor)
     } else {
         None
@@ -91,29 +100,14 @@ pub(crate) fn both(first: &Option<Span<20>>, second: &Option<Span<20>>) -> Optio
 /// The quotient by a divisor, where there is one.
 pub(crate) fn quotient(moment: Span<20>, divisor: &Option<Span<20>>, reach: u32) -> Option<Span<20>>
     requires reach { reach ≤ 74 }
-    requires bounded { EndsBelow 106 moment.lo moment.hi }
     requires small { IfSome divisor.now (λ d. (pos 1 ≤ℤ d.lo) × IsSmallBeside reach d moment) }
+    requires size { IfSome divisor.now (λ d. EndsBelow 96 d.lo d.hi) }
     ensures none { IsNone result ↔ IsNone divisor.now }
     ensures contains { IfSome result (λ s. (m v : Fraction) → ContainsFraction 20 moment.lo moment.hi m → IfSome divisor.now (λ d. ContainsFraction 20 d.lo d.hi v) → ContainsFraction 20 s.lo s.hi (m ⊗ inverse v)) }
     ensures ends { IfSome result (λ s. EndsAtMost (2 ^ (reach + 20)) s.lo s.hi) }
 {
     match divisor {
-        Some(divisor) => Some(moment.over(*divisor)),
+        Some(divisor) => Some(over(moment, *divisor)),
         None => None,
-    }
-}
-
-/// The whole mm³ or mm⁴ around a span, each as one unit of 2^-20: the quotient of two such spans is that of what they
-/// stand for.
-pub(crate) fn in_units(span: Span<20>) -> Span<20>
-    requires { EndsBelow 124 span.lo span.hi }
-    ensures contains { (q : Fraction) → ContainsFraction 20 span.lo span.hi q → ContainsFraction 20 result.lo result.hi (q ⊗ inverse (whole (pos (2 ^ 20)))) }
-    ensures ends { EndsBelow 105 result.lo result.hi }
-    ensures floor { (result.lo *ℤ pos (2 ^ 20)) ≤ℤ span.lo }
-{
-    let whole: Span<0> = span.rescale();
-    match Span::new(whole.lo(), whole.hi()) {
-        Some(units) => units,
-        None => unreachable!(),
     }
 }

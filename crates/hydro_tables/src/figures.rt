@@ -1,5 +1,5 @@
 // Figures that are formed from others.
-ghost use Rattle.std.specs.Prelude.{◌≡◌, ◌*◌, ◌^◌, ◌⊎◌, ◌↔◌, pos, IfSome, IsNone};
+ghost use Rattle.std.specs.Prelude.{◌≡◌, ◌*◌, ◌^◌, ◌⊎◌, ◌↔◌, pos, IfSome, IsNone, IsTrue};
 ghost use Rattle.exact_algebra.proofs.Fraction.{Fraction, ◌⊕◌, ◌⊗◌, ◌⊖◌, inverse};
 ghost use Rattle.exact_algebra.proofs.Span.{ContainsFraction};
 ghost use Rattle.exact_algebra.proofs.Whole.{whole};
@@ -10,6 +10,9 @@ ghost use Rattle.hydro_tables.specs.Bounds.{AreLidEnds};
 use flux_moments::LidSums;
 use hull_model::Water;
 use outward_interval::Span;
+
+/// Below this, an integral times a length of 2^20 mm fits.
+const ROOM: u128 = 1 << 83;
 
 /// mm³ in a m³, times kg in a t: a volume times a density over this is a mass in t.
 const VOLUME_IN_TONNES: i128 = 1_000_000_000_000;
@@ -36,15 +39,24 @@ pub(crate) fn longitudinal(lid: &LidSums, lcf: &Option<Span<20>>) -> Span<20>
     }
 }
 
-// The product of a length and an integral, which is taken to 2^-10 mm³ so that it fits.
+// The product of a length and an integral. An integral that is too great for 128 bits is taken to 2^-10 mm³.
 fn product(length: Span<20>, sx: Span<20>) -> Span<20>
     requires length { EndsAtMost (2 ^ 40) length.lo length.hi }
     requires sx { EndsBelow 93 sx.lo sx.hi }
     ensures contains { (c x : Fraction) → ContainsFraction 20 length.lo length.hi c → ContainsFraction 20 sx.lo sx.hi x → ContainsFraction 20 result.lo result.hi (c ⊗ x) }
     ensures ends { EndsAtMost (2 ^ 114) result.lo result.hi }
 {
+    if has_room(sx) {
+        return length.scaled_by(sx);
+    }
     let coarse: Span<10> = sx.rescale();
     length.scaled_by(coarse)
+}
+
+fn has_room(sx: Span<20>) -> bool
+    ensures { IsTrue result → EndsBelow 83 sx.lo sx.hi }
+{
+    sx.lo().unsigned_abs() < ROOM && sx.hi().unsigned_abs() < ROOM
 }
 
 /// The mass of a volume of water, in t.

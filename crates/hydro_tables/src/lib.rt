@@ -3,6 +3,7 @@
 
 mod divisor;
 mod figures;
+mod long_division;
 mod row;
 #[cfg(test)]
 mod tests;

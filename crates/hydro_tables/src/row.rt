@@ -11,7 +11,7 @@ ghost use Rattle.hydro_tables.specs.Bounds.{AreWetEnds, AreLidEnds};
 ghost use Rattle.hydro_tables.specs.Figures.{Integrals, integrals_of};
 ghost use Rattle.hydro_tables.specs.Row.{HoldsFigures, AreEnclosed, IsAbsentExactly, AreBounded};
 
-use crate::divisor::{both, divisor_for, in_units, quotient, shown};
+use crate::divisor::{both, divisor_for, quotient, shown};
 use crate::figures::{displacement_of, longitudinal, mct_of, sum_of, tpc_of};
 use flux_moments::{LidSums, PlaneBox, Wet, lid, measure};
 use hull_model::Water;
@@ -20,6 +20,9 @@ use outward_interval::Span;
 
 /// Grid units in a mm.
 const GRID: i64 = 1024;
+
+/// The least volume that is divided by, in units of 2^-20 mm³: 1 mm³.
+const LEAST_VOLUME: i128 = 1 << 20;
 
 /// No quotient by the volume reaches 2^74 mm.
 const REACH: u32 = 74;
@@ -92,22 +95,21 @@ fn row_of(below: &Wet, lid: &LidSums, water: &Water) -> HydroRow
     ensures absent { IsAbsentExactly result }
     ensures ends { AreBounded result }
 {
-    let area = divisor_for(lid.area, &[lid.sx], REACH_OF_CENTRE);
+    let area = divisor_for(lid.area, 1, &[lid.sx], REACH_OF_CENTRE);
     let lcf = quotient(lid.sx, &area, REACH_OF_CENTRE);
     let inertia = longitudinal(lid, &lcf);
-    let (mx, mu) = (in_units(below.mx), in_units(below.mu));
-    let (transverse, longitudinal) = (in_units(lid.syy), in_units(inertia));
-    let moments = [mx, mu, transverse, longitudinal];
-    let volume = divisor_for(in_units(below.volume), &moments, REACH);
-    let kb = quotient(mu, &volume, REACH);
-    let bmt = quotient(transverse, &volume, REACH);
-    let bml = quotient(longitudinal, &both(&volume, &area), REACH);
+    let moments = [below.mx, below.mu, lid.syy, inertia];
+    let volume = divisor_for(below.volume, LEAST_VOLUME, &moments, REACH);
+    let lcb = quotient(below.mx, &volume, REACH);
+    let kb = quotient(below.mu, &volume, REACH);
+    let bmt = quotient(lid.syy, &volume, REACH);
+    let bml = quotient(inertia, &both(&volume, &area), REACH);
     let shown_volume = shown(below.volume, &volume);
     let shown_area = shown(lid.area, &area);
     HydroRow {
         volume: shown_volume,
         displacement: displacement_of(shown_volume, water),
-        lcb: quotient(mx, &volume, REACH),
+        lcb,
         kb,
         area: shown_area,
         lcf,

@@ -1,5 +1,5 @@
-// Rows of a box and of a prism, by hand. A barge of 100 m by 20 m by 10 m, and a hull of that length with straight sides
-// from the base up to 20 m at the height of 10 m.
+// Rows of boxes and of a prism, by hand: a barge of 100 m by 20 m by 10 m, a hull of that length with straight sides from
+// the base up to 20 m at the height of 10 m, and a box of 2 mm by 2 mm by 1 m.
 use crate::{HydroRow, hydro_row};
 use exact_fraction::Ratio;
 use hull_model::{Hull, Point, Points, Station, Water};
@@ -9,10 +9,30 @@ use std::alloc::Global;
 use std::process::Abort;
 use std::test::Fail;
 
-// Half-breadths at the base and at the height of 10 m.
-const BARGE: [i64; 2] = [10000, 10000];
+/// Stations at both ends and in the middle; half-breadths at the base and at the height.
+struct Body {
+    length: i64,
+    half_breadths: [i64; 2],
+    height: i64,
+}
 
-const WEDGE: [i64; 2] = [0, 10000];
+const BARGE: Body = Body {
+    length: 100000,
+    half_breadths: [10000, 10000],
+    height: 10000,
+};
+
+const WEDGE: Body = Body {
+    length: 100000,
+    half_breadths: [0, 10000],
+    height: 10000,
+};
+
+const SMALL: Body = Body {
+    length: 2,
+    half_breadths: [1, 1],
+    height: 1000,
+};
 
 // At each draft: volume, displacement, lcb, kb, area, lcf, bmt, bml, kmt, tpc, mct. With the deck in the waterplane the lid
 // is whole; with the deck below it there is none.
@@ -26,20 +46,25 @@ const WEDGE_ROWS: &str = "\
 0 0 0 - - 0 - - - - 0 -\n\
 5000 2500000000000 5125/2 50000 10000/3 1000000000 50000 10000/3 1000000/3 20000/3 41/4 1025/12";
 
+// Its MCT is far below one unit, so that the span has 0 too.
+const SMALL_ROWS: &str = "\
+1 4 41/10000000000 1 1/2 4 1 1/3 1/3 5/6 41/1000000000 0\n\
+900 3600 369/100000000 1 450 4 1 1/2700 1/2700 1215001/2700 41/1000000000 0";
+
 // In units of 2^-20, in the same order.
 const WIDEST: [i128; 11] = [1 << 31, 8, 256, 32, 4096, 4, 8, 512, 32, 4, 2];
 
-fn faces_with(alloc: Global, half_breadths: [i64; 2]) -> Result<Option<Faces>, Fail> {
+const WIDEST_SMALL: [i128; 11] = [8; 11];
+
+fn faces_of_body(alloc: Global, body: &Body) -> Result<Option<Faces>, Fail> {
     let mut stations = Vec::new(alloc);
-    for x in [0, 50000, 100000] {
+    let [low, high] = body.half_breadths;
+    for x in [0, body.length / 2, body.length] {
         let mut points = Vec::new(alloc);
+        points.push(Point { y: low, z: 0 })?;
         points.push(Point {
-            y: half_breadths[0],
-            z: 0,
-        })?;
-        points.push(Point {
-            y: half_breadths[1],
-            z: 10000,
+            y: high,
+            z: body.height,
         })?;
         stations.push(Station {
             x,
@@ -93,8 +118,14 @@ fn columns(row: &HydroRow) -> [Option<Span<20>>; 11] {
     ]
 }
 
-fn check(rt: &impl Abort, alloc: Global, half_breadths: [i64; 2], table: &str) -> Result<(), Fail> {
-    let faces = faces_with(alloc, half_breadths)?.expect(rt, "a hull");
+fn check(
+    rt: &impl Abort,
+    alloc: Global,
+    body: &Body,
+    table: &str,
+    widest: [i128; 11],
+) -> Result<(), Fail> {
+    let faces = faces_of_body(alloc, body)?.expect(rt, "a hull");
     let water = Water {
         density: 1025,
         length_bp: 100000,
@@ -107,7 +138,7 @@ fn check(rt: &impl Abort, alloc: Global, half_breadths: [i64; 2], table: &str) -
         let spans = columns(&row);
         for k in 0..11 {
             let cell = cells.next().expect(rt, "a cell");
-            assert!(rt; is_cell(cell, spans[k], WIDEST[k])?, "{line}: {cell}");
+            assert!(rt; is_cell(cell, spans[k], widest[k])?, "{line}: {cell}");
         }
     }
     Ok(())
@@ -115,10 +146,15 @@ fn check(rt: &impl Abort, alloc: Global, half_breadths: [i64; 2], table: &str) -
 
 #[test]
 fn the_barge_at_four_drafts(rt: HostRuntime) -> Result<(), Fail> {
-    check(&rt, rt.alloc(), BARGE, BARGE_ROWS)
+    check(&rt, rt.alloc(), &BARGE, BARGE_ROWS, WIDEST)
 }
 
 #[test]
 fn the_wedge_at_two_drafts(rt: HostRuntime) -> Result<(), Fail> {
-    check(&rt, rt.alloc(), WEDGE, WEDGE_ROWS)
+    check(&rt, rt.alloc(), &WEDGE, WEDGE_ROWS, WIDEST)
+}
+
+#[test]
+fn the_small_box_at_two_drafts(rt: HostRuntime) -> Result<(), Fail> {
+    check(&rt, rt.alloc(), &SMALL, SMALL_ROWS, WIDEST_SMALL)
 }
