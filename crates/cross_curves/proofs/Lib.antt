@@ -1,0 +1,2 @@
+pub mod ByNeed
+pub mod Boxes

@@ -1,0 +1,3 @@
+pub mod GridLevels
+pub mod DraftBracket
+pub mod Places
