@@ -1,0 +1,11 @@
+//! The mass of what a job puts into a ship, and its centre.
+#![tactic(auto)]
+
+mod loading;
+mod loads;
+mod sums;
+#[cfg(test)]
+mod tests;
+
+pub use loading::{LoadFault, Loading};
+pub use loads::load;
