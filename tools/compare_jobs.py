@@ -22,6 +22,10 @@ import subprocess
 import sys
 import tempfile
 
+sys.dont_write_bytecode = True
+
+import checker  # noqa: E402
+
 TOP = pathlib.Path(__file__).resolve().parent.parent
 PARTED = b"\x1e"
 PROGRAM = r'''
@@ -187,10 +191,7 @@ def main():
     parser.add_argument("--count", type=int, default=1000)
     parser.add_argument("--seed", type=int, default=1)
     given = parser.parse_args()
-    sys.dont_write_bytecode = True
-    sys.path.insert(0, given.checker)
-    from oracle.job import JobFault, read_job
-
+    JobFault, read_job = checker.load(given.checker, "job", "JobFault", "read_job")
     chance = random.Random(given.seed)
     lines = (TOP / "examples" / "cargo.toml").read_text().splitlines()
     jobs = [job for job in (broken(lines, chance) for _ in range(given.count)) if PARTED not in job]

@@ -21,6 +21,7 @@ import tempfile
 
 sys.dont_write_bytecode = True
 
+import checker  # noqa: E402
 from compare_jobs import broken  # noqa: E402
 from mutate_offsets import mutated  # noqa: E402
 
@@ -56,9 +57,8 @@ def main():
     parser.add_argument("--count", type=int, default=1000)
     parser.add_argument("--seed", type=int, default=1)
     given = parser.parse_args()
-    sys.path.insert(0, given.checker)
-    from oracle.check import check_run
-
+    checker.need_program(given.program)
+    (check_run,) = checker.load(given.checker, "check", "check_run")
     examples = [(TOP / "examples" / f"{name}.csv").read_bytes() for name in ("barge", "wedge", "cargo")]
     cargo_job = (TOP / "examples" / "cargo.toml").read_text().splitlines()
     chance = random.Random(given.seed)

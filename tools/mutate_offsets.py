@@ -18,6 +18,10 @@ import subprocess
 import sys
 import tempfile
 
+sys.dont_write_bytecode = True
+
+import checker  # noqa: E402
+
 TOP = pathlib.Path(__file__).resolve().parent.parent
 FIELDS = [
     b"", b"0", b"-0", b"-1", b"1", b"00000000", b"000000000", b"0000000000", b"65535", b"65536", b"524287",
@@ -104,10 +108,8 @@ def main():
     parser.add_argument("--count", type=int, default=10000)
     parser.add_argument("--seed", type=int, default=1)
     given = parser.parse_args()
-    sys.dont_write_bytecode = True
-    sys.path.insert(0, given.checker)
-    from oracle.reference import reference_run
-
+    checker.need_program(given.program)
+    (reference_run,) = checker.load(given.checker, "reference", "reference_run")
     examples = [(TOP / "examples" / f"{name}.csv").read_bytes() for name in ("barge", "wedge", "cargo")]
     chance = random.Random(given.seed)
     outcomes = collections.Counter()

@@ -6,7 +6,8 @@
 A table has one row for each line of its name: hydro, section, cross, load, upright, arm, mark, damage, safe, next. Each
 figure takes two columns, its low and its high end, as printed; an absent figure leaves both empty. With --out each
 table that has rows is written to FOLDER/NAME.csv; otherwise one table (--table, or the only one that has rows) goes to
-the output. Ends with 1 and the number of the line where a line is outside the grammar.
+the output. Ends with 1 and the number of the line where a line is outside the grammar, and with 1 and the line itself
+where there is a `refused` or a `fault` line in place of a report.
 """
 
 import argparse
@@ -71,25 +72,27 @@ def table_text(rows, name):
     return text.getvalue()
 
 
+def write_all(tables, folder):
+    try:
+        folder.mkdir(parents=True, exist_ok=True)
+        for name, rows in tables.items():
+            (folder / f"{name}.csv").write_text(table_text(rows, name))
+    except OSError as fault:
+        sys.exit(f"{folder}: {fault.strerror}")
+
+
 def main():
     reader = argparse.ArgumentParser(description=__doc__, formatter_class=argparse.RawDescriptionHelpFormatter)
     reader.add_argument("report", help="a file, or - for the input")
-    reader.add_argument("--table", choices=sorted(HEADS))
-    reader.add_argument("--out", type=pathlib.Path)
+    reader.add_argument("--table", choices=sorted(HEADS), help="the table that goes to the output")
+    reader.add_argument("--out", type=pathlib.Path, metavar="FOLDER", help="where each table is written to a file")
     given = reader.parse_args()
-    content = sys.stdin.buffer.read() if given.report == "-" else pathlib.Path(given.report).read_bytes()
-    try:
-        lines = report_lines.lines_of(content)
-    except report_lines.BadLine as bad:
-        sys.exit(f"{given.report}: {bad}")
     tables = {}
-    for words in lines:
+    for words in report_lines.read(given.report):
         if words[0] in HEADS:
             tables.setdefault(words[0], []).append(row_of(words))
     if given.out:
-        given.out.mkdir(parents=True, exist_ok=True)
-        for name, rows in tables.items():
-            (given.out / f"{name}.csv").write_text(table_text(rows, name))
+        write_all(tables, given.out)
         return
     names = [given.table] if given.table else list(tables)
     if len(names) != 1:

@@ -1,9 +1,12 @@
 """The lines of a report, as `specs/Spelling.antt` of the crate hull_report spells them.
 
 `lines_of(content)` gives a list of lines, each a list of words; `BadLine` names the first line outside the grammar.
+`read(name)` gives those of a file, and ends with a sentence where there is no report in it.
 """
 
+import pathlib
 import re
+import sys
 
 WHOLE = re.compile(r"(?:0|-?[1-9][0-9]*)\Z")
 COMMANDS = "hydro bonjean cross stability damage floodable all section make".split()
@@ -108,3 +111,20 @@ def figure_of(word, places=6):
     """The two ends of a figure in its unit, or None where it is absent."""
     ends = ends_of(word, places)
     return None if ends is None else (ends[0] / 10 ** places, ends[1] / 10 ** places)
+
+
+def read(name):
+    """The lines of the report in a file, or in the input where the name is "-"; ends with a sentence where there are none."""
+    try:
+        content = sys.stdin.buffer.read() if name == "-" else pathlib.Path(name).read_bytes()
+    except (OSError, ValueError) as fault:
+        sys.exit(f"{name}: {getattr(fault, 'strerror', None) or fault}")
+    if not content:
+        sys.exit(f"{name}: it is empty; hullcert may have ended before it wrote a report")
+    if content.startswith((b"refused ", b"fault ")):
+        line = content.splitlines()[0].decode("ascii", "replace")
+        sys.exit(f"{name}: {line}\n{name}: there is no report; tools/explain '{line}' says what this means")
+    try:
+        return lines_of(content)
+    except BadLine as bad:
+        sys.exit(f"{name}: {bad}")

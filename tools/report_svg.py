@@ -1,134 +1,249 @@
 #!/usr/bin/env python3
-"""Draws the righting-arm curve, the hydrostatic and the Bonjean curves of a report, each with its intervals as a band.
+"""Draws the curves of a report: all on one sheet, or one file each.
 
-    tools/report_svg.py REPORT [--curve NAME] [--out FOLDER]
+    tools/report_svg.py REPORT > sheet.svg
+    tools/report_svg.py REPORT --out FOLDER
+    tools/report_svg.py REPORT --curve NAME > curve.svg
 
-The curves are gz and area (arm lines, over degrees of heel) and volume, displacement, lcb, kb, waterplane, lcf, bmt,
-bml, kmt, tpc, mct (hydro lines, over the draft), and station0, station1, .. (section lines: the area of that station
-over the draft). Reports may be joined to one file: curves take the lines of all. With --out each curve of at least two points is written to
-FOLDER/NAME.svg; otherwise --curve goes to the output. A band reaches from the low ends to the high ends; where it is
-thinner than a hair the line is still drawn. Figures that are absent break a curve.
-Ends with 1 and the number of the line where a line is outside the grammar.
+The curves are volume, displacement, lcb, kb, waterplane, lcf, bmt, bml, kmt, tpc, mct (hydro lines, over the draft),
+station0, station1, .. (section lines: the area of that station over the draft), gz and area (arm lines, over degrees of
+heel). Reports may be joined to one file: curves take the lines of all. Figures that are absent break a curve.
+
+A point is a figure of the report. Its interval is drawn as a bar where it is at least a pixel high; else the point
+covers it. The thin line joins the points: between them nothing is certified. Hydro points at drafts at which no
+waterplane is left are drawn hollow: there the whole hull is under. With --offsets the deck is known, and hollow are all
+points at drafts above it: above the lowest of the stations' top points, or for a section above its own.
+Ends with 1 and the number of the line where a line is outside the grammar, and with 1 and the line itself where there
+is a `refused` or a `fault` line in place of a report.
 """
 
 import argparse
 import math
 import pathlib
 import sys
+from typing import NamedTuple
 
 sys.dont_write_bytecode = True
 
+import offset_rows  # noqa: E402
 import report_lines  # noqa: E402
 
-WIDTH, HEIGHT, LEFT, RIGHT, TOP, BOTTOM = 720, 440, 84, 24, 40, 56
+WIDTH, HEIGHT, LEFT, RIGHT, TOP, BOTTOM = 480, 320, 72, 16, 36, 46
+HEAD, FOOT, MOST_COLUMNS = 40, 56, 4
+INK, FAINT = "#1f5a94", "#7fa3c7"
 ARM = [("gz", "GZ, m", 4), ("area", "area below GZ, m·rad", 5)]
 HYDRO = [
-    ("volume", "volume, m³"), ("displacement", "displacement, t"), ("lcb", "LCB, m"), ("kb", "KB, m"),
-    ("waterplane", "waterplane area, m²"), ("lcf", "LCF, m"), ("bmt", "BMT, m"), ("bml", "BML, m"), ("kmt", "KMT, m"),
-    ("tpc", "TPC, t/cm"), ("mct", "MCT, t·m/cm"),
+    ("volume", "volume, m³"), ("displacement", "displacement, t"), ("lcb", "LCB from x = 0, m"), ("kb", "KB, m"),
+    ("waterplane", "waterplane area, m²"), ("lcf", "LCF from x = 0, m"), ("bmt", "BMT, m"), ("bml", "BML, m"),
+    ("kmt", "KMT, m"), ("tpc", "TPC, t/cm"), ("mct", "MCT, t·m/cm"),
+]
+NOTES = [
+    "Points are the report's figures; a bar is an interval that is high enough to be seen.",
+    "The thin line joins the points: between them nothing is certified.",
 ]
 
 
-def curves_of(lines):
-    """For each curve its titles and its points: (place, low, high), or None where the figure is absent."""
-    found = {}
-    arms = [words for words in lines if words[0] == "arm"]
-    for name, title, at in ARM:
-        found[name] = ("heel, degrees", title, [(float(words[1]), report_lines.figure_of(words[at])) for words in arms])
+class Point(NamedTuple):
+    """A figure over its place: its ends, None where it is absent, and whether its draft is above the deck."""
+
+    place: float
+    ends: tuple
+    is_above: bool
+
+
+class Curve(NamedTuple):
+    """The titles of a curve and its points from left to right."""
+
+    across: str
+    title: str
+    points: list
+
+
+# ---- From lines to curves
+
+
+def is_under(words, deck):
+    """Whether a hydro line's draft is above the deck; without the offsets, whether a body has no waterplane left."""
+    if deck is not None:
+        return int(words[1]) > deck
+    volume, waterplane = report_lines.figure_of(words[2]), report_lines.figure_of(words[6])
+    return volume[0] > 0 and waterplane[1] == 0
+
+
+def hydro_curves(lines, tops):
     rows = [words for words in lines if words[0] == "hydro"]
+    deck = min(tops) if tops else None
     for at, (name, title) in enumerate(HYDRO, start=2):
-        found[name] = ("draft, m", title, [(int(words[1]) / 1000, report_lines.figure_of(words[at])) for words in rows])
-    sections = [words for words in lines if words[0] == "section"]
-    for station in sorted({int(words[1]) for words in sections}):
-        points = [(int(words[3]) / 1000, report_lines.figure_of(words[4])) for words in sections if int(words[1]) == station]
-        found[f"station{station}"] = ("draft, m", f"section of station {station}, m²", points)
+        points = [Point(int(words[1]) / 1000, report_lines.figure_of(words[at]), is_under(words, deck)) for words in rows]
+        yield name, Curve("draft, m", title, points)
+
+
+def arm_curves(lines):
+    rows = [words for words in lines if words[0] == "arm"]
+    for name, title, at in ARM:
+        points = [Point(float(words[1]), report_lines.figure_of(words[at]), False) for words in rows]
+        yield name, Curve("heel, degrees", title, points)
+
+
+def station_curves(lines, tops):
+    rows = [words for words in lines if words[0] == "section"]
+    for station in sorted({int(words[1]) for words in rows}):
+        own = [words for words in rows if int(words[1]) == station]
+        top = tops[station] if station < len(tops) else math.inf
+        points = [Point(int(words[3]) / 1000, report_lines.figure_of(words[4]), int(words[3]) > top) for words in own]
+        yield f"station{station}", Curve("draft, m", f"station {station}, x = {int(own[0][2]) / 1000:g} m: area, m²", points)
+
+
+def curves_of(lines, tops):
+    """The curves that have a figure, by name. `tops` are the heights of the stations' top points, or none."""
+    found = [*hydro_curves(lines, tops), *arm_curves(lines), *station_curves(lines, tops)]
     return {
-        name: (across, title, sorted(points, key=lambda point: point[0]))
-        for name, (across, title, points) in found.items()
-        if sum(figure is not None for _, figure in points) >= 2
+        name: Curve(curve.across, curve.title, sorted(curve.points, key=lambda point: point.place))
+        for name, curve in found
+        if any(point.ends is not None for point in curve.points)
     }
 
 
-def runs_of(points):
-    """The points in runs that no absent figure breaks."""
-    runs = [[]]
-    for place, figure in points:
-        if figure is None:
-            runs.append([])
-        else:
-            runs[-1].append((place, *figure))
-    return [run for run in runs if run]
+def tops_of(name):
+    """The heights of the stations' top points in mm; a station that is a single point has no deck."""
+    try:
+        rows = offset_rows.rows_of(pathlib.Path(name).read_bytes())
+        stations = offset_rows.stations_of(rows)
+        return [station.kept[-1].z if len(station.kept) > 1 else math.inf for station in stations]
+    except OSError as fault:
+        sys.exit(f"{name}: {fault.strerror}")
+    except ValueError:
+        sys.exit(f"{name}: it isn't an offset file; hullcert says why")
 
 
-def ticks_of(low, high, count=6):
-    """Round numbers from low to high, about so many."""
+# ---- From curves to pictures
+
+
+def ticks_of(low, high, count=5):
+    """Round numbers from low to high, about so many, each with its text."""
     raw = (high - low) / count
     power = 10.0 ** math.floor(math.log10(raw))
     size = power * next(times for times in (1, 2, 5, 10) if power * times >= raw * (1 - 1e-9))
-    return [number * size for number in range(math.ceil(low / size - 1e-9), math.floor(high / size + 1e-9) + 1)]
+    places = max(0, -math.floor(math.log10(size) + 1e-9))
+    numbers = range(math.ceil(low / size - 1e-9), math.floor(high / size + 1e-9) + 1)
+    return [(number * size, f"{number * size:.{places}f}") for number in numbers]
 
 
-def drawing(across, title, points):
-    """The text of one curve's picture."""
-    runs = runs_of(points)
-    flat = [point for run in runs for point in run]
-    left, right = min(point[0] for point in flat), max(point[0] for point in flat)
-    low, high = min(point[1] for point in flat), max(point[2] for point in flat)
-    right = right if right > left else left + 1
-    margin = (high - low) * 0.06 or max(abs(high), 1) * 0.06
-    low, high = low - margin, high + margin
+def frame_of(curves):
+    """The least and the greatest place and value of some curves, with a margin."""
+    points = [point for curve in curves for point in curve.points]
+    ends = [point.ends for point in points if point.ends is not None]
+    left, right = min(point.place for point in points), max(point.place for point in points)
+    low, high = min(low for low, _ in ends), max(high for _, high in ends)
+    aside = (right - left) * 0.03 or 0.5
+    over = (high - low) * 0.06 or max(abs(high), 1) * 0.06
+    return left - aside, right + aside, low - over, high + over
 
-    def x(place):
-        return LEFT + (place - left) / (right - left) * (WIDTH - LEFT - RIGHT)
 
-    def y(value):
-        return HEIGHT - BOTTOM - (value - low) / (high - low) * (HEIGHT - TOP - BOTTOM)
+class Panel:
+    """The picture of one curve within a frame, WIDTH by HEIGHT."""
 
+    def __init__(self, curve, frame):
+        self.curve, (self.left, self.right, self.low, self.high) = curve, frame
+
+    def x(self, place):
+        return LEFT + (place - self.left) / (self.right - self.left) * (WIDTH - LEFT - RIGHT)
+
+    def y(self, value):
+        return HEIGHT - BOTTOM - (value - self.low) / (self.high - self.low) * (HEIGHT - TOP - BOTTOM)
+
+    def axes(self):
+        yield f'<text x="{LEFT}" y="22" font-size="14">{self.curve.title}</text>'
+        for tick, text in ticks_of(self.low, self.high):
+            colour = "#888" if tick == 0 else "#ddd"
+            yield f'<path d="M{LEFT} {self.y(tick):.2f}H{WIDTH - RIGHT}" stroke="{colour}"/>'
+            yield f'<text x="{LEFT - 6}" y="{self.y(tick) + 4:.2f}" text-anchor="end">{text}</text>'
+        for tick, text in ticks_of(self.left, self.right):
+            yield f'<path d="M{self.x(tick):.2f} {TOP}V{HEIGHT - BOTTOM}" stroke="#eee"/>'
+            yield f'<text x="{self.x(tick):.2f}" y="{HEIGHT - BOTTOM + 16}" text-anchor="middle">{text}</text>'
+        yield f'<text x="{(LEFT + WIDTH - RIGHT) / 2}" y="{HEIGHT - 10}" text-anchor="middle">{self.curve.across}</text>'
+
+    def line(self):
+        pieces, pen = [], "M"
+        for point in self.curve.points:
+            if point.ends is None:
+                pen = "M"
+                continue
+            pieces.append(f"{pen}{self.x(point.place):.2f} {self.y(sum(point.ends) / 2):.2f}")
+            pen = "L"
+        return f'<path d="{"".join(pieces)}" fill="none" stroke="{FAINT}" stroke-width="0.7"/>'
+
+    def mark(self, point):
+        x, low, high = self.x(point.place), self.y(point.ends[0]), self.y(point.ends[1])
+        if low - high >= 1:
+            yield f'<path d="M{x:.2f} {low:.2f}V{high:.2f}M{x - 4:.2f} {low:.2f}h8M{x - 4:.2f} {high:.2f}h8" stroke="{INK}" fill="none"/>'
+        fill = "white" if point.is_above else INK
+        yield f'<circle cx="{x:.2f}" cy="{(low + high) / 2:.2f}" r="2.6" fill="{fill}" stroke="{INK}"/>'
+
+    def parts(self):
+        marks = [part for point in self.curve.points if point.ends is not None for part in self.mark(point)]
+        return [*self.axes(), self.line(), *marks]
+
+
+def is_station(name):
+    return name.startswith("station")
+
+
+def drawing(curves, heading):
+    """A sheet of the curves, by name; stations share one frame, so that they can be compared."""
+    columns = min(MOST_COLUMNS, max(1, math.isqrt(len(curves) - 1) + 1))
+    rows = -(-len(curves) // columns)
+    width, height = columns * WIDTH, HEAD + rows * HEIGHT + FOOT
+    stations = [curve for name, curve in curves.items() if is_station(name)]
     parts = [
-        f'<svg xmlns="http://www.w3.org/2000/svg" viewBox="0 0 {WIDTH} {HEIGHT}" font-family="sans-serif" font-size="12">',
-        f'<rect width="{WIDTH}" height="{HEIGHT}" fill="white"/>',
-        f'<text x="{LEFT}" y="24" font-size="15">{title}</text>',
+        f'<svg xmlns="http://www.w3.org/2000/svg" viewBox="0 0 {width} {height}" font-family="sans-serif" font-size="11">',
+        f'<rect width="{width}" height="{height}" fill="white"/>',
+        f'<text x="16" y="26" font-size="16">{heading}</text>',
     ]
-    for tick in ticks_of(low, high):
-        parts.append(f'<path d="M{LEFT} {y(tick):.2f}H{WIDTH - RIGHT}" stroke="#ddd"/>')
-        parts.append(f'<text x="{LEFT - 8}" y="{y(tick) + 4:.2f}" text-anchor="end">{tick:.6g}</text>')
-    for tick in ticks_of(left, right):
-        parts.append(f'<path d="M{x(tick):.2f} {TOP}V{HEIGHT - BOTTOM}" stroke="#eee"/>')
-        parts.append(f'<text x="{x(tick):.2f}" y="{HEIGHT - BOTTOM + 18}" text-anchor="middle">{tick:.6g}</text>')
-    if low < 0 < high:
-        parts.append(f'<path d="M{LEFT} {y(0):.2f}H{WIDTH - RIGHT}" stroke="#888"/>')
-    for run in runs:
-        upper = [f"{x(place):.2f} {y(top):.2f}" for place, _, top in run]
-        lower = [f"{x(place):.2f} {y(bottom):.2f}" for place, bottom, _ in reversed(run)]
-        parts.append(f'<path d="M{"L".join(upper + lower)}Z" fill="#8fb8de" fill-opacity="0.6" stroke="#1f5a94" stroke-width="0.8"/>')
-        parts += [f'<circle cx="{x(place):.2f}" cy="{y((bottom + top) / 2):.2f}" r="1.6" fill="#1f5a94"/>' for place, bottom, top in run]
-    parts.append(f'<text x="{(LEFT + WIDTH - RIGHT) / 2}" y="{HEIGHT - 14}" text-anchor="middle">{across}</text>')
-    parts.append("</svg>")
-    return "\n".join(parts) + "\n"
+    for at, (name, curve) in enumerate(curves.items()):
+        frame = frame_of(stations if is_station(name) else [curve])
+        parts.append(f'<g transform="translate({at % columns * WIDTH} {HEAD + at // columns * HEIGHT})">')
+        parts += [*Panel(curve, frame).parts(), "</g>"]
+    notes = list(NOTES)
+    if any(point.is_above and point.ends is not None for curve in curves.values() for point in curve.points):
+        notes.append("Hollow: the draft is above the deck, and the hull is taken as closed there.")
+    parts += [f'<text x="16" y="{height - FOOT + 14 + 15 * at}">{note}</text>' for at, note in enumerate(notes)]
+    return "\n".join([*parts, "</svg>"]) + "\n"
+
+
+def heading_of(lines):
+    hull = next((words for words in lines if words[0] == "hull"), None)
+    return f"hullcert, {hull[1]} stations, {hull[2]} points" if hull else "hullcert"
+
+
+def write_all(curves, heading, folder):
+    try:
+        folder.mkdir(parents=True, exist_ok=True)
+        for name, curve in curves.items():
+            (folder / f"{name}.svg").write_text(drawing({name: curve}, heading), encoding="utf-8")
+    except OSError as fault:
+        sys.exit(f"{folder}: {fault.strerror}")
 
 
 def main():
     reader = argparse.ArgumentParser(description=__doc__, formatter_class=argparse.RawDescriptionHelpFormatter)
-    reader.add_argument("report", help="a file, or - for the input")
-    reader.add_argument("--curve")
-    reader.add_argument("--out", type=pathlib.Path)
+    reader.add_argument("report", metavar="REPORT", help="a file, or - for the input")
+    reader.add_argument("--curve", metavar="NAME", help="this curve alone")
+    reader.add_argument("--out", type=pathlib.Path, metavar="FOLDER", help="where each curve is written to a file NAME.svg")
+    reader.add_argument("--offsets", metavar="OFFSETS", help="the hull's offset file, for the height of the deck")
     given = reader.parse_args()
-    content = sys.stdin.buffer.read() if given.report == "-" else pathlib.Path(given.report).read_bytes()
-    try:
-        curves = curves_of(report_lines.lines_of(content))
-    except report_lines.BadLine as bad:
-        sys.exit(f"{given.report}: {bad}")
-    if given.out and curves:
-        given.out.mkdir(parents=True, exist_ok=True)
-        for name, curve in curves.items():
-            (given.out / f"{name}.svg").write_text(drawing(*curve))
-        return
+    lines = report_lines.read(given.report)
+    curves = curves_of(lines, tops_of(given.offsets) if given.offsets else [])
     if not curves:
-        sys.exit(f"{given.report}: no curve has two points")
-    name = given.curve or next(iter(curves))
-    if name not in curves:
-        sys.exit(f"{given.report}: no curve {name} of two points; there are {' '.join(curves)}")
-    sys.stdout.write(drawing(*curves[name]))
+        sys.exit(f"{given.report}: it has no figures to draw; has the job drafts?")
+    if given.curve and given.curve not in curves:
+        sys.exit(f"{given.report}: no curve {given.curve}; there are {' '.join(curves)}")
+    if given.curve:
+        curves = {given.curve: curves[given.curve]}
+    if given.out:
+        write_all(curves, heading_of(lines), given.out)
+    else:
+        sys.stdout.buffer.write(drawing(curves, heading_of(lines)).encode())
 
 
 if __name__ == "__main__":

@@ -9,10 +9,12 @@ Its volume below z = 0 is 4/9 L B T. Stations stand at equal distances, and poin
 rounded to whole mm.
 """
 
+import argparse
 import re
 import subprocess
 import sys
 import tempfile
+from collections.abc import Callable
 from fractions import Fraction
 from pathlib import Path
 
@@ -45,6 +47,16 @@ def volume_of(report: str) -> tuple[Fraction, Fraction]:
     return Fraction(low), Fraction(high)
 
 
+def run(command: list[str], job: Path, hull: Path) -> str:
+    try:
+        done = subprocess.run([*command, "hydro", str(job), str(hull)], stdout=subprocess.PIPE, text=True)
+    except OSError as fault:
+        sys.exit(f"{command[0]}: {fault.strerror}")
+    if done.returncode:
+        sys.exit(f"{' '.join(command)} ended with status {done.returncode}: {done.stdout.strip()}")
+    return done.stdout
+
+
 def table(command: list[str]) -> None:
     exact = Fraction(4 * LENGTH * BREADTH * DRAFT, 9 * 10**9)
     print(f"closed form: {float(exact):.6f} m³")
@@ -53,22 +65,36 @@ def table(command: list[str]) -> None:
         job.write_text(JOB)
         for stations, points in GRIDS:
             hull.write_text(offsets(stations, points))
-            run = subprocess.run([*command, "hydro", str(job), str(hull)], capture_output=True, text=True, check=True)
-            low, high = volume_of(run.stdout)
+            low, high = volume_of(run(command, job, hull))
             less = float((exact - (low + high) / 2) / exact * 100)
             print(f"{stations} by {points}: [{float(low):.6f},{float(high):.6f}], {less:.3f} % less")
 
 
-def main() -> int:
-    if len(sys.argv) == 4 and sys.argv[1] == "offsets":
-        sys.stdout.write(offsets(int(sys.argv[2]), int(sys.argv[3])))
-        return 0
-    if len(sys.argv) > 2 and sys.argv[1] == "table":
-        table(sys.argv[2:])
-        return 0
-    sys.stderr.write(__doc__)
-    return 2
+def within(low: int, high: int) -> Callable[[str], int]:
+    """Reads a whole number that hullcert takes."""
+
+    def read(word: str) -> int:
+        if not word.isascii() or not word.isdigit() or not low <= int(word) <= high:
+            raise argparse.ArgumentTypeError(f"{word!r} isn't a whole number from {low} to {high}")
+        return int(word)
+
+    return read
+
+
+def main() -> None:
+    parser = argparse.ArgumentParser(description=__doc__, formatter_class=argparse.RawDescriptionHelpFormatter)
+    forms = parser.add_subparsers(dest="form", required=True)
+    writes = forms.add_parser("offsets", help="writes the offsets of a grid")
+    writes.add_argument("stations", metavar="STATIONS", type=within(3, 64))
+    writes.add_argument("points", metavar="POINTS", type=within(2, 32))
+    compares = forms.add_parser("table", help="runs the program on each grid")
+    compares.add_argument("command", metavar="COMMAND", nargs="+", help="as ./hullcert")
+    given = parser.parse_args()
+    if given.form == "offsets":
+        sys.stdout.write(offsets(given.stations, given.points))
+    else:
+        table(given.command)
 
 
 if __name__ == "__main__":
-    sys.exit(main())
+    main()

@@ -1,0 +1,588 @@
+#!/usr/bin/env python3
+"""Tests the launcher and the tools.
+
+    tools/test_tools.py [--after LINE]
+
+The launcher is tried on a small tree with a stand-in for `rt` and for the program; the built program is asked too where
+it is there. The last line is `N passed, N failed`; with --after the counts of LINE, of the same form, are added to it.
+Ends with 1 where a test failed.
+"""
+
+import argparse
+import contextlib
+import io
+import os
+import pathlib
+import re
+import shutil
+import subprocess
+import sys
+import tempfile
+import unittest
+
+sys.dont_write_bytecode = True
+
+import check_input  # noqa: E402
+import offset_rows  # noqa: E402
+import refusal_hints  # noqa: E402
+import refusal_texts  # noqa: E402
+import report_lines  # noqa: E402
+import report_svg  # noqa: E402
+
+TOP = pathlib.Path(__file__).resolve().parent.parent
+TOOLS = TOP / "tools"
+PROGRAM = TOP / "crates" / "hull_cli" / "out" / "hull_cli"
+CARGO, CARGO_JOB = TOP / "examples" / "cargo.csv", TOP / "examples" / "cargo.toml"
+COUNTS = re.compile(r"([0-9]+) passed, ([0-9]+) failed\b")
+REPORT = (
+    "hullcert 1 hydro\nhull 3 6\nbody 120000000000000\n"
+    "hydro 5000 [10000.000000,10000.000001] [10250.000000,10250.000001] [50.000000,50.000001] [2.500000,2.500001] "
+    "[2000.000000,2000.000000] [50.000000,50.000000] [6.666666,6.666667] [166.666666,166.666667] [9.166666,9.166667] "
+    "[20.500000,20.500000] [170.833333,170.833334]\n"
+    "hydro 12000 [20000.000000,20000.000000] [20500.000000,20500.000000] [50.000000,50.000000] [5.000000,5.000000] "
+    "[0.000000,0.000000] - [0.000000,0.000000] - [5.000000,5.000000] [0.000000,0.000000] -\nend 6\n"
+)
+SECTIONS = "".join(
+    f"section {station} {1000 * station} {draft} [{draft}.000000,{draft}.000000] [0.000000000,0.000000000]\n"
+    for draft in (1, 2)
+    for station in range(5)
+)
+
+RT = """#!/bin/sh
+crate=$(basename "$PWD")
+echo "$crate $*" >>"$ROOM/calls"
+case $1 in
+    version) echo kit-1 ;;
+    lib) [ "$crate" != "$FAILS" ] || { echo "fn a: proved"; echo "error: no proof of b"; exit 1; } ;;
+    run) mkdir -p out && cp "$ROOM/program" out/hull_cli ;;
+    try) shift 4; "$ROOM/program" "$@"; status=$?; echo "run=ended status=$status" >&2; exit "$status" ;;
+esac
+"""
+STAND_IN = """#!/bin/sh
+echo "$*" >>"$ROOM/asked"
+printf '%s\\n' "${SAYS-end 1}"
+exit "${ENDS-0}"
+"""
+
+
+def run(words, **how):
+    given = {"capture_output": True, "text": True, "timeout": 60, "stdin": subprocess.DEVNULL, **how}
+    return subprocess.run([str(word) for word in words], check=False, **given)
+
+
+class Room(unittest.TestCase):
+    """A test with a folder of its own."""
+
+    def setUp(self):
+        self.room = pathlib.Path(tempfile.mkdtemp(prefix="hullcert-tools-"))
+        self.addCleanup(shutil.rmtree, self.room, ignore_errors=True)
+
+    def file(self, name, content):
+        path = self.room / name
+        path.parent.mkdir(parents=True, exist_ok=True)
+        path.write_bytes(content if isinstance(content, bytes) else content.encode())
+        return path
+
+    def tool(self, name, *words, **how):
+        done = run([sys.executable, TOOLS / name, *words], **how)
+        self.assertNotIn("Traceback", done.stderr)
+        return done
+
+
+# ---- The table of texts
+
+
+def spec_of(crate, name):
+    return (TOP / "crates" / crate / "specs" / name).read_text(encoding="utf-8")
+
+
+def fault_forms(reader):
+    """The forms of a reader's faults, as the program's specs spell them."""
+    places = {"word": "", "place": " 1", "field": " 1 1", "entry": " KEY 1"}
+    found = re.findall(rf'{reader}_fault_text .*= (\w+)_text \(codes "(\w+)"\)', spec_of("hull_cli", "Faults.antt"))
+    return [word + places[form] for form, word in found]
+
+
+def keys_of_specs():
+    """The keys of a job as the specs spell them, each behind its table."""
+    text = spec_of("job_reader", "Keys.antt")
+    words = dict(re.findall(r'word_of (\w+) = codes "(\w+)"', text))
+    tables = {key: table for key, table in re.findall(r"table_of (\w+) = (\w+)", text) if table != "Top"}
+    return [f"{words[tables[key]]}.{word}" if key in tables else word for key, word in words.items()]
+
+
+def lines_of_specs():
+    """Every line that the program may write in place of a report."""
+    lines = ["refused usage", "refused long job", "refused long offsets", "refused station 3", "fault read job", "fault read offsets"]
+    lines += [f"refused offsets {form}" for form in fault_forms("offset")]
+    for form in fault_forms("job"):
+        keys = keys_of_specs() if "KEY" in form else [""]
+        lines += [f"refused job {form.replace('KEY', key)}" for key in keys]
+    return lines
+
+
+class Texts(unittest.TestCase):
+    def setUp(self):
+        self.texts = refusal_texts.load()
+
+    def said(self, line, words=()):
+        entry, places = self.texts.entry_of(line.split())
+        case = refusal_hints.Case(list(words), places)
+        hints = list(refusal_hints.hints(case, entry))
+        for name, filled in hints:
+            self.texts.fill(f"hint {name}", filled)
+        return self.texts.fill(entry, refusal_hints.filled(case, entry, self.texts)), [name for name, _ in hints]
+
+    def test_the_specs_are_read(self):
+        self.assertEqual(len(fault_forms("offset")), len(re.findall(r"(?m)^offset_fault_text", spec_of("hull_cli", "Faults.antt"))))
+        self.assertEqual(len(fault_forms("job")), len(re.findall(r"(?m)^job_fault_text", spec_of("hull_cli", "Faults.antt"))))
+        self.assertGreater(len(fault_forms("offset")) + len(fault_forms("job")), 20)
+        self.assertGreater(len(keys_of_specs()), 25)
+        causes = re.findall(r"(?m)^cause_text \(?(\w+)", spec_of("hull_cli", "Refusals.antt"))
+        self.assertEqual(sorted(causes), ["Job", "Long", "Offsets", "Station", "Usage"])
+
+    def test_every_refusal_and_fault_has_its_sentence(self):
+        for line in lines_of_specs():
+            with self.subTest(line):
+                self.assertIsNotNone(self.texts.entry_of(line.split()), "no entry")
+                text, _ = self.said(line)
+                self.assertRegex(text, r"\w.*[.?)]$")
+
+    def test_every_key_has_its_value(self):
+        for key in keys_of_specs():
+            with self.subTest(key):
+                self.assertTrue(self.texts.value_of(key) or key == "top")
+
+    def test_the_tables_of_keys_are_those_of_the_specs(self):
+        known = {word if table == "top" else f"{table}.{word}" for table, words in refusal_hints.KEYS.items() for word in words.split()}
+        self.assertEqual(known | {"top"}, set(keys_of_specs()) | {"top"})
+
+    def test_no_entry_is_never_used(self):
+        refusals = {self.texts.entry_of(line.split())[0] for line in lines_of_specs()}
+        self.assertEqual(refusals, {name for name in self.texts.entries if name.split()[0] in ("refused", "fault")})
+        source = (TOOLS / "refusal_hints.py").read_text(encoding="utf-8")
+        for name in [name.split()[1] for name in self.texts.entries if name.startswith("hint ")]:
+            self.assertTrue(f'"{name}"' in source, name)
+
+    def test_the_commands_are_those_of_the_specs(self):
+        commands = set(re.findall(r'bytes_eq \w+ \(codes "(\w+)"\)', spec_of("hull_cli", "Words.antt")))
+        self.assertEqual(commands, set(refusal_hints.FORMS))
+        launcher = (TOP / "hullcert").read_text(encoding="utf-8")
+        for command, words in refusal_hints.FORMS.items():
+            self.assertTrue(f"    hullcert {command} {' '.join(words)} " in launcher, command)
+
+    def test_words_of_no_form(self):
+        for words, hint in [
+            (["stability", "a", "b"], "later"), (["hydros", "a", "b"], "command"), (["hydro", "a"], "count"),
+            (["hydro", "-a", "b"], "dash"), (["section", "a", "1", "8.5"], "draft"), (["section", "a", "x", "8"], "station"),
+        ]:
+            with self.subTest(words):
+                self.assertEqual(self.said("refused usage", words)[1], [hint])
+
+
+CARGO_ROWS = [line.split(",") for line in CARGO.read_text().split()]
+
+
+def table(rows, mark=","):
+    return "".join(mark.join(map(str, row)) + "\n" for row in rows)
+
+
+def metres(rows, point="."):
+    return [[f"{int(word) / 1000}".replace(".", point) for word in row] for row in rows]
+
+
+OFFSET_HINTS = [
+    ("number 1 1", "x,y,z\n0,0,0\n", "header"), ("columns 1", "0;0;0\n", "semicolons"), ("columns 1", "0\t0\t0\n", "tabs"),
+    ("columns 1", "0 0 0\n", "blanks"), ("columns 1", "# ship\n0,0,0\n", "comment"), ("columns 1", "0,0,1,0,2,0\n", "decimal_comma"),
+    ("columns 1", "x,0,1,3,6,9,12\n", "table"), ("number 1 1", table(metres(CARGO_ROWS)), "metres"),
+    ("number 1 2", "90000,0.5,0\n", "decimals"), ("number 2 1", "0,0,0\n,,\n", "empty_row"), ("number 1 1", "0 mm,0 mm,0 mm\n", "unit"),
+    ("number 1 3", "0,0,1 000\n", "thousands"), ("number 1 3", "0,0,+5\n", "sign"), ("columns 1", b"PK\x03\x04", "workbook"),
+    ("number 1 1", table(CARGO_ROWS).encode("utf-16"), "utf16"), ("negative 1 1", "-5,0,0\n", "midship"),
+    ("negative 1 2", "0,-5,0\n", "both_sides"), ("negative 1 3", "0,5,-5\n", "below_base"), ("range 1 2", "0,70000,0\n", "full_breadth"),
+    ("backwards 3", "9,0,0\n9,1,1\n5,0,0\n5,1,1\n", "fore_to_aft"), ("backwards 4", "5,0,0\n6,1,1\n7,0,0\n5,1,1\n", "parted"),
+    ("backwards 3", "5,0,0\n6,1,0\n5,0,1\n6,1,1\n5,0,2\n6,1,2\n", "sorted_by_height"), ("height 2", "5,0,9\n5,1,3\n", "top_down"),
+    ("height 2", "5,0,0\n5,1,0\n5,1,9\n5,1,9\n5,1,10\n", None), ("height 3", "5,0,0\n5,1,8\n5,3,8\n5,3,9\n", "same_point"),
+    ("height 3", "5,0,0\n5,1,8\n5,3,7\n5,4,9\n", "exchanged_columns"), ("fewpoints 2", "1,0,0\n2,1,1\n3,1,1\n", "one_station"),
+    ("fewstations 0", "", "empty_file"), ("columns 1", "version = 1\n", "exchanged"), ("columns 1", '0,"0,0\n0,0,0\n', "quote"),
+]
+JOB_HINTS = [
+    ("text", "0,0,0\n0,1,2\n", "exchanged"), ("text", "density = 1025,5\n", "toml_decimal_comma"), ("text", "drafts = [1\n", "toml"),
+    ("kind density 0", "density = 1.025\n", "toml_density"), ("kind length_bp 0", "length_bp = 100.5\n", "toml_decimals"),
+    ("kind density 0", 'density = "1025"\n', "toml_quoted"), ("range density 0", "density = 1\n", "toml_density"),
+    ("unknown top 0", "draft = [1]\n", "known"), ("unknown item 2", "[[item]]\nx = 1\n[[item]]\nkg = 1\n", "known"),
+]
+
+
+class Hints(Room):
+    def hints_for(self, line, job, offsets):
+        entry, places = refusal_texts.load().entry_of(line.split())
+        case = refusal_hints.Case(["hydro", str(job), str(offsets)], places)
+        return [name for name, _ in refusal_hints.hints(case, entry)]
+
+    def test_offsets(self):
+        for line, content, hint in OFFSET_HINTS:
+            with self.subTest(line=line, hint=hint):
+                found = self.hints_for(f"refused offsets {line}", CARGO_JOB, self.file("ship.csv", content))
+                self.assertTrue(hint in found if hint else True, found)
+
+    @unittest.skipIf(refusal_hints.tomllib is None, "needs Python 3.11")
+    def test_job(self):
+        for line, content, hint in JOB_HINTS:
+            with self.subTest(line=line, hint=hint):
+                self.assertIn(hint, self.hints_for(f"refused job {line}", self.file("ship.toml", content), CARGO))
+
+    def test_the_row_is_shown(self):
+        done = self.tool("explain", "refused offsets number 1 1", "hydro", CARGO_JOB, self.file("ship.csv", "x,y,z\n"))
+        self.assertEqual(done.returncode, 0)
+        self.assertRegex(done.stdout, r'Row 1 of .*ship\.csv is "x,y,z": its first field .* isn\'t a whole number')
+        self.assertIn("no header line", done.stdout)
+
+    def test_lines_that_are_none(self):
+        for line in ("", "end 5", "refused", "refused offsets number 1"):
+            self.assertEqual(self.tool("explain", line).returncode, 1)
+
+
+# ---- The launcher
+
+
+class Launcher(Room):
+    def setUp(self):
+        super().setUp()
+        self.tree = self.room / "tree"
+        for crate in ("low", "mid", "aside", "hull_cli"):
+            for part in ("src", "specs", "proofs"):
+                self.file(f"tree/crates/{crate}/{part}/lib", "")
+        self.file("tree/crates.txt", "# lowest first\nlow:\nmid: low itoa\naside: low\nhull_cli: mid itoa\n")
+        shutil.copy2(TOP / "hullcert", self.tree / "hullcert")
+        shutil.copytree(TOOLS, self.tree / "tools", ignore=shutil.ignore_patterns("__pycache__"))
+        self.script("bin/rt", RT)
+        self.script("program", STAND_IN)
+
+    def script(self, name, text):
+        self.file(name, text).chmod(0o755)
+
+    def launch(self, *words, program="hullcert", path=None, **env):
+        path = path or f"{self.room}/bin:{os.environ['PATH']}"
+        environment = {**os.environ, "ROOM": str(self.room), "FAILS": "", "TMPDIR": str(self.room), "PATH": path, **env}
+        environment.pop("HULLCERT_UNPROVED", None)
+        environment.update({name: value for name, value in env.items() if name == "HULLCERT_UNPROVED"})
+        return run([self.tree / program, *words], env=environment, cwd=self.room)
+
+    def calls(self, name="calls"):
+        path = self.room / name
+        return path.read_text().splitlines() if path.exists() else []
+
+    def test_builds_what_is_needed_once(self):
+        done = self.launch("hydro", "job", "offsets")
+        self.assertEqual((done.returncode, done.stdout), (0, "end 1\n"))
+        self.assertEqual(self.calls(), ["low lib", "mid lib", "hull_cli run -- section data/barge.csv 1 5000"])
+        self.assertRegex(done.stderr, r"crate 2 of 3, mid: begun after 0 min 0[0-9] s")
+        again = self.launch("hydro", "job", "offsets")
+        self.assertEqual((again.stdout, again.stderr, len(self.calls())), ("end 1\n", "", 3))
+
+    def test_builds_again_after_a_change(self):
+        self.launch("hydro", "job", "offsets")
+        later = (self.tree / "crates/hull_cli/out/hull_cli").stat().st_mtime + 5
+        os.utime(self.tree / "crates/low/proofs/lib", (later, later))
+        self.launch("hydro", "job", "offsets")
+        self.assertEqual(len(self.calls()), 6)
+
+    def test_a_failure_shows_the_crate_and_the_end_of_its_log(self):
+        done = self.launch("hydro", "job", "offsets", FAILS="mid")
+        self.assertEqual((done.returncode, done.stdout), (69, ""))
+        self.assertIn("the crate mid wasn't built", done.stderr)
+        self.assertIn("error: no proof of b", done.stderr)
+        self.assertNotIn("fn a: proved", done.stderr)
+        log = re.search(r"the whole log is in (\S+)", done.stderr)[1]
+        self.assertIn("fn a: proved", pathlib.Path(log).read_text())
+
+    def test_without_the_kit(self):
+        tools = self.room / "few"
+        tools.mkdir()
+        for name in ("sh", "dirname", "find", "grep", "readlink", "cat"):
+            (tools / name).symlink_to(shutil.which(name))
+        done = self.launch("hydro", "job", "offsets", path=str(tools))
+        self.assertEqual(done.returncode, 69)
+        self.assertIn("the command rt isn't found", done.stderr)
+        self.assertIn("PATH", done.stderr)
+
+    def test_through_links(self):
+        (self.tree / "one").symlink_to("hullcert")
+        (self.tree / "two").symlink_to(self.tree / "one")
+        self.assertEqual(self.launch("hydro", "job", "offsets", program="two").stdout, "end 1\n")
+
+    def test_help_and_version(self):
+        self.launch("hydro", "job", "offsets")
+        for words in ([], ["-h"], ["--help"], ["help"]):
+            done = self.launch(*words, SAYS="refused usage", ENDS="3")
+            self.assertEqual((done.returncode, done.stdout), (3, "refused usage\n"))
+            self.assertEqual(done.stderr.count("hydro JOB OFFSETS"), 1)
+        done = self.launch("--version", SAYS="refused usage", ENDS="3")
+        self.assertEqual((done.returncode, done.stdout), (3, "refused usage\n"))
+        self.assertRegex(done.stderr, r"^hullcert: .*; Rattle kit: kit-1\n$")
+
+    def test_a_refusal_is_explained(self):
+        self.launch("hydro", "job", "offsets")
+        offsets = self.file("ship.csv", "x,y,z\n")
+        done = self.launch("hydro", CARGO_JOB, offsets, SAYS="refused offsets number 1 1", ENDS="3")
+        self.assertEqual((done.returncode, done.stdout), (3, "refused offsets number 1 1\n"))
+        self.assertIn("header", done.stderr)
+        done = self.launch("hydro", "none", offsets, SAYS="fault read job", ENDS="4")
+        self.assertEqual((done.returncode, done.stdout), (4, "fault read job\n"))
+        self.assertIn("there is no such file", done.stderr)
+        done = self.launch("hydro", offsets, SAYS="refused usage", ENDS="3")
+        self.assertIn("one word came", done.stderr)
+        self.assertEqual(done.stderr.count("hydro JOB OFFSETS"), 1)
+
+    def test_statuses_are_passed_on(self):
+        for status in (0, 1, 2, 5, 6):
+            done = self.launch("hydro", "job", "offsets", ENDS=str(status))
+            self.assertEqual((done.returncode, done.stdout), (status, "end 1\n"))
+
+    def test_a_pipe_is_read_once(self):
+        self.launch("hydro", "job", "offsets")
+        os.mkfifo(self.room / "pipe")
+        done = self.launch("hydro", "job", "pipe", SAYS="refused offsets novolume", ENDS="3")
+        self.assertEqual((done.returncode, len(self.calls("asked"))), (3, 2))
+        self.assertIn("tools/explain", done.stderr)
+
+    def test_unproved(self):
+        done = self.launch("hydro", "job", "offsets", HULLCERT_UNPROVED="1")
+        self.assertEqual((done.returncode, done.stdout), (0, "end 1\n"))
+        self.assertEqual(self.calls("asked"), [f"hydro {self.room}/job {self.room}/offsets"])
+        self.assertEqual(done.stderr.count("unproved") + done.stderr.count("nothing is proved"), 2)
+        self.assertEqual(self.calls(), [f"hull_cli try --seconds 600 -- hydro {self.room}/job {self.room}/offsets"])
+        done = self.launch("section", "ship.csv", "1", "8", SAYS="refused station 1", ENDS="3", HULLCERT_UNPROVED="1")
+        self.assertEqual((done.returncode, done.stdout), (3, "refused station 1\n"))
+        self.assertIn("There is no station 1", done.stderr)
+
+
+# ---- Reports
+
+
+class Reports(Room):
+    def test_tables(self):
+        done = self.tool("report_csv.py", self.file("report", REPORT))
+        self.assertEqual(done.returncode, 0)
+        lines = done.stdout.splitlines()
+        self.assertEqual((len(lines), lines[1].split(",")[:3]), (3, ["5000", "10000.000000", "10000.000001"]))
+        self.assertEqual({len(line.split(",")) for line in lines}, {23})
+
+    def test_a_refusal_is_passed_on(self):
+        for name in ("report_csv.py", "report_svg.py"):
+            for line in ("refused offsets number 1 1", "fault read job"):
+                done = self.tool(name, self.file("report", line + "\n"))
+                self.assertEqual((done.returncode, done.stdout), (1, ""))
+                self.assertIn(f"report: {line}\n", done.stderr)
+
+    def test_files_that_hold_no_report(self):
+        for name in ("report_csv.py", "report_svg.py"):
+            for path in (self.room / "none", self.room, self.file("empty", ""), self.file("bad", "hull 1\n"), self.file("end", "end 1\n")):
+                done = self.tool(name, path)
+                self.assertEqual((done.returncode, done.stdout), (1, ""))
+                self.assertEqual(len(done.stderr.splitlines()), 1)
+
+    def test_the_bad_line_is_named(self):
+        self.assertIn("line 3 isn't", self.tool("report_csv.py", self.file("report", "hull 3 6\nend 4\nend x\n")).stderr)
+
+    def test_one_sheet(self):
+        sheet = self.sheet(REPORT)
+        for _, title in report_svg.HYDRO:
+            self.assertIn(title, sheet)
+        self.assertIn("nothing is certified", sheet)
+        self.assertIn("Hollow", sheet)
+        self.assertEqual(sheet.count('fill="white" stroke='), 8)
+
+    def sheet(self, report, *words):
+        done = run([sys.executable, TOOLS / "report_svg.py", self.file("report", report), *words], text=False)
+        self.assertEqual((done.returncode, done.stderr), (0, b""))
+        return done.stdout.decode()
+
+    def test_all_stations(self):
+        sheet = self.sheet(SECTIONS)
+        for station in range(5):
+            self.assertIn(f"station {station}, x = {station} m", sheet)
+
+    def test_one_curve_and_a_file_each(self):
+        self.assertEqual(self.sheet(REPORT, "--curve", "kb").count("<g "), 1)
+        self.assertEqual(self.tool("report_svg.py", self.file("report", REPORT), "--curve", "kl").returncode, 1)
+        self.assertEqual(self.tool("report_svg.py", self.file("report", REPORT), "--out", self.room / "all").returncode, 0)
+        self.assertEqual(len(list((self.room / "all").iterdir())), len(report_svg.HYDRO))
+
+    def test_the_deck_of_the_offsets(self):
+        sheet = self.sheet(REPORT, "--offsets", TOP / "examples" / "barge.csv")
+        self.assertEqual(sheet.count('fill="white" stroke='), 8)
+
+    def test_bars_only_where_they_are_seen(self):
+        wide = "hydro 5 [1.000000,2.000000] [1.000000,2.000000] - - [1.000000,2.000000] - - - - [1.000000,2.000000] -\n"
+        self.assertEqual(self.sheet(wide, "--curve", "volume").count("h8"), 2)
+        self.assertEqual(self.sheet(REPORT, "--curve", "volume").count("h8"), 0)
+
+    def test_every_line_of_the_grammar_has_its_head(self):
+        heads = {form[0] for form in report_lines.FORMS} - {"hullcert", "hull", "body", "verdict", "end"}
+        words = self.tool("report_csv.py", "--help").stdout
+        for head in heads:
+            self.assertIn(head, words)
+
+
+# ---- Input
+
+SHIP = [(10000 * i, 100 * j + 8000 * (0 < i < 10), 1000 * j) for i in range(11) for j in range(9)]
+JOB = "version = 1\ndensity = 1025\nlength_bp = 100000\ndrafts = [4000]\n"
+
+
+@unittest.skipIf(check_input.tomllib is None, "needs Python 3.11")
+class Input(Room):
+    def warned(self, job=JOB, rows=SHIP):
+        done = self.tool("check_input.py", self.file("ship.toml", job), self.file("ship.csv", table(rows)))
+        self.assertEqual(done.returncode, 1 if done.stdout else 0)
+        return done.stdout
+
+    def test_what_is_probably_not_meant(self):
+        item = '[[item]]\nname = "a"\nmass = 1\nx = %d\nz = %d\n'
+        opening = '[[opening]]\nname = "a"\ny = %d\nz = %d\n'
+        for words, warning in [
+            ({"job": JOB.replace("drafts = [4000]", "")}, "no drafts"), ({"job": JOB.replace("4000", "8500")}, "above the whole hull"),
+            ({"rows": SHIP + [(100000, 900, 9000)]}, "points"), ({"job": JOB.replace("4000", "0")}, "nothing is under water"),
+            ({"job": JOB.replace("4000", "4, 8")}, "Were they metres?"),
+            ({"job": JOB.replace("100000", "100")}, "length_bp is 100,"), ({"job": JOB + item % (100001, 5)}, "outside the hull"),
+            ({"job": JOB + item % (5, 50000)}, "far above the deck"), ({"job": JOB + opening % (5, 50000)}, "far above the deck"),
+            ({"job": JOB + opening % (50000, 5)}, "from the centreplane"), ({"rows": [(x // 1000, y, z) for x, y, z in SHIP]}, "metres"),
+            ({"rows": [(x, 3 * y, z) for x, y, z in SHIP]}, "full breadths"), ({"rows": [(x, z, y) for x, y, z in ROUND]}, "exchanged"),
+            ({"rows": [(x if x < 100000 else 130000, y, z) for x, y, z in SHIP]}, "apart"), ({}, "21 at least"), ({}, "11 heights"),
+            ({"rows": [(x, y, z) for x, y, z in SHIP] + [(100000, 700, 8000)]}, "is dropped"),
+            ({"rows": [(x, y, z - 2000 * (x == 50000 and z == 8000)) for x, y, z in SHIP if (x, z) not in LOW], "job": JOB.replace("4000", "7000")}, "top point of station 5"),
+        ]:
+            with self.subTest(warning):
+                self.assertIn(warning, self.warned(**words))
+
+    def test_a_sound_table_has_no_warning(self):
+        rows = [(5000 * i, (4000 + 400 * j) * (0 < i < 20), 1000 * j) for i in range(21) for j in range(11)]
+        self.assertEqual(self.warned(rows=rows), "")
+
+    def test_files_that_are_refused(self):
+        good_job, good_rows = self.file("good.toml", JOB), self.file("good.csv", table(SHIP))
+        for job, rows in [
+            (self.room / "none", good_rows), (good_job, self.room / "none"), (good_job, self.file("bad.csv", "x,y,z\n")),
+            (good_job, self.file("few.csv", "0,0,0\n")), (self.file("bad.toml", "version\n"), good_rows), (good_job, self.file("none.csv", "")),
+        ]:
+            self.assertEqual(self.tool("check_input.py", job, rows).returncode, 2)
+
+
+ROUND = [(10000 * i, 1000 * j + (5 - abs(i - 5)) * 200 * (j > 0), 1000 * j) for i in range(11) for j in range(9)]
+LOW = {(50000, 6000), (50000, 7000)}
+
+
+class YardTables(Room):
+    def grid(self, turned=False, mark=";", point=","):
+        x, z = sorted({int(row[0]) for row in CARGO_ROWS}), sorted({int(row[2]) for row in CARGO_ROWS})
+        cells = {(int(row[0]), int(row[2])): int(row[1]) for row in CARGO_ROWS}
+
+        def text(length):
+            return "" if length is None else f"{length / 1000:g}".replace(".", point)
+
+        across, down = (z, x) if turned else (x, z)
+        rows = [["Linesplan"], [""] + [text(one) for one in across]]
+        rows += [[text(one)] + [text(cells.get((one, other) if turned else (other, one))) for other in across] for one in down]
+        return table(rows, mark)
+
+    def test_the_cargo_ship(self):
+        for turned in (False, True):
+            for mark, point in ((";", ","), (",", "."), ("\t", "."), (";", ".")):
+                with self.subTest(turned=turned, mark=mark, point=point):
+                    done = self.tool("table_to_offsets.py", self.file("table.csv", self.grid(turned, mark, point)))
+                    self.assertEqual((done.returncode, done.stdout), (0, CARGO.read_text()))
+
+    def test_what_is_said(self):
+        content = "x,WL 0,WL 1500\n10.5,0.1,0.2004\n-10.5,0,0.3\n0,1,2\n"
+        done = self.tool("table_to_offsets.py", "-", stdin=None, input=content)
+        self.assertEqual(done.stdout, "0,0,0\n0,300,1500\n10500,1000,0\n10500,2000,1500\n21000,100,0\n21000,200,1500\n")
+        for said in ("stations: in rows", "10500 mm were added", "height: in mm", "rounded to whole mm: 1 lengths, by 0.4"):
+            self.assertIn(said, done.stderr)
+
+    def test_options(self):
+        content = "WL,0,1,2,3,4\n0,10,20,30,20,10\n1000,20,40,60,40,20\n"
+        words = ["--spacing", "5000", "--full", "--unit", "mm", "--from-fore", "--stations", "columns"]
+        done = self.tool("table_to_offsets.py", "-", *words, stdin=None, input=content)
+        self.assertEqual(done.stdout.splitlines()[:4], ["0,5,0", "0,10,1000", "5000,10,0", "5000,20,1000"])
+
+    def test_tables_that_cannot_be_read(self):
+        for content in ("", "a\n", "x,0,1\n", "x,0,1\n0,1,a\n1,1,1\n", "x,0,1\n0,1,1,1\n1,1,1\n", "x,0,0\n0,1,1\n1,1,1\n", b"PK\x03\x04", 'x,0,1\n"1,500",1,1\n'):
+            done = self.tool("table_to_offsets.py", self.file("table.csv", content))
+            self.assertEqual((done.returncode, done.stdout), (1, ""))
+        self.assertEqual(self.tool("table_to_offsets.py", self.room / "none").returncode, 1)
+
+
+# ---- All tools, README, the built program
+
+
+class Everything(Room):
+    def test_help(self):
+        for path in sorted(TOOLS.iterdir()):
+            if os.access(path, os.X_OK) and path.is_file():
+                with self.subTest(path.name):
+                    done = self.tool(path.name, "--help")
+                    self.assertEqual((done.returncode, done.stderr), (0, ""))
+                    self.assertIn("usage:", done.stdout)
+
+    def test_wigley(self):
+        self.assertEqual(len(self.tool("wigley.py", "offsets", "3", "2").stdout.splitlines()), 6)
+        for words in (["offsets", "65", "6"], ["offsets", "x", "6"], ["table", self.room / "none"], []):
+            self.assertNotEqual(self.tool("wigley.py", *words).returncode, 0)
+
+    def test_every_tool_is_in_readme(self):
+        text = (TOP / "README.md").read_text(encoding="utf-8")
+        for path in TOOLS.iterdir():
+            if os.access(path, os.X_OK) and path.is_file():
+                self.assertTrue(f"`{path.name}" in text, path.name)
+
+    def test_rows(self):
+        rows = offset_rows.rows_of(b'\xef\xbb\xbf1,2,3\r\n\r\n"4", 5 ,6\n')
+        self.assertEqual([(row.number, row.line, row.fields) for row in rows], [(1, 1, ["1", "2", "3"]), (2, 3, ["4", " 5 ", "6"])])
+        (station,) = offset_rows.stations_of(offset_rows.rows_of(b"0,0,0\n0,5,0\n0,6,9\n0,0,9\n"))
+        self.assertEqual([[point.row for point in points] for points in (station.kept, station.dropped)], [[2, 3], [1, 4]])
+
+    @unittest.skipUnless(PROGRAM.exists(), "the program isn't built")
+    def test_readme_shows_what_the_program_writes(self):
+        text = (TOP / "README.md").read_text(encoding="utf-8")
+        asked = [["hydro", CARGO_JOB, CARGO], ["bonjean", CARGO_JOB, CARGO], ["section", CARGO, "12", "8000"]]
+        written = [line for words in asked for line in run([PROGRAM, *words]).stdout.splitlines()]
+        shown = re.findall(r"(?m)^    ((?:hydro|section|hull|body|end) [0-9].*)$", text)
+        self.assertGreater(len(shown), 10)
+        for line in shown:
+            self.assertTrue(any(full.startswith(line.removesuffix(" ..")) for full in written), line)
+
+    @unittest.skipUnless(PROGRAM.exists(), "the program isn't built")
+    def test_the_program_s_refusals_are_explained(self):
+        texts = refusal_texts.load()
+        for line, content, _ in OFFSET_HINTS:
+            done = run([PROGRAM, "hydro", CARGO_JOB, self.file("ship.csv", content)])
+            with self.subTest(line=line):
+                self.assertEqual(done.returncode, 3, done.stdout)
+                self.assertIsNotNone(texts.entry_of(done.stdout.split()))
+
+
+def counted(result, after):
+    """How many tests passed and failed, with those of a line."""
+    failed = len({getattr(test, "test_case", test).id() for test, _ in result.failures + result.errors})
+    passed = result.testsRun - failed - len(result.skipped)
+    found = COUNTS.match(after or "0 passed, 0 failed")
+    return (passed + int(found[1]), failed + int(found[2])) if found else (passed, failed + 1)
+
+
+def main():
+    parser = argparse.ArgumentParser(description=__doc__, formatter_class=argparse.RawDescriptionHelpFormatter)
+    parser.add_argument("--after", metavar="LINE", help="the last line of a run whose counts are added")
+    given = parser.parse_args()
+    suite = unittest.defaultTestLoader.loadTestsFromModule(sys.modules[__name__])
+    with contextlib.redirect_stdout(io.StringIO()):
+        result = unittest.TextTestRunner(stream=sys.stderr, verbosity=0).run(suite)
+    for test, why in result.skipped:
+        print(f"not tried: {test.id()}: {why}")
+    passed, failed = counted(result, given.after)
+    print(f"{passed} passed, {failed} failed")
+    return 1 if failed or not result.testsRun else 0
+
+
+if __name__ == "__main__":
+    sys.exit(main())
