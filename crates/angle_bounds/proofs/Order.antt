@@ -10,7 +10,7 @@ use Rattle.exact_algebra.proofs.Order as Order
 use Rattle.exact_algebra.proofs.Division.{floor_is_greatest, ceiling_is_least}
 use Rattle.exact_algebra.proofs.Whole.{over-≼}
 use Rattle.exact_algebra.proofs.Span.{floor_over, ceiling_over, contains_over_out, positive-unit}
-use Rattle.angle_bounds.specs.Directions.{IsDirection, IsAtMost, IsLeastSpanOver, IsWithin, DirectionsAreOrdered, SpansContainEachDirection, SpansAreLeast}
+use Rattle.angle_bounds.specs.Directions.{IsDirection, IsAtMost, IsLeastSpanOver, IsDirectionWithin, DirectionsAreOrdered, SpansContainEachDirection, SpansAreLeast}
 use Rattle.angle_bounds.proofs.Squares.{le_of-square}
 
 -- of two directions the one that is at most the other has the greater cosine and the lesser sine
@@ -54,10 +54,10 @@ spans_are_least F c s r c' s' r' c_lo c_hi s_lo s_hi lo hi low high bracket = (
   λ all. reaches F s_lo s_hi lo hi s r s' r' low.positive high.positive bracket.sine (all c s r low at_low) (all c' s' r' high at_high),
 )
   where
-    at_low : IsWithin c s c' s' c s
+    at_low : IsDirectionWithin c s c' s' c s
     at_low = record { from = same (s * c); to = bracket.ordered }
 
-    at_high : IsWithin c s c' s' c' s'
+    at_high : IsDirectionWithin c s c' s' c' s'
     at_high = record { from = bracket.ordered; to = same (s' * c') }
 
 -- at a right angle nothing is left of the cosine, and all directions are at most it

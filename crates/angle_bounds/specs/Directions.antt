@@ -28,7 +28,7 @@ pub record IsBracket (F : ℕ) (c s r c' s' r' : ℕ) (c_lo c_hi s_lo s_hi : ℤ
   pub sine : IsLeastSpanOver F s_lo s_hi s r s' r'
 
 -- the direction lies in the bracket from one direction to another
-pub record IsWithin (c s c' s' x y : ℕ) : Type 0 where
+pub record IsDirectionWithin (c s c' s' x y : ℕ) : Type 0 where
   pub from : IsAtMost c s x y
   pub to : IsAtMost x y c' s'
 
@@ -42,12 +42,12 @@ pub record DirectionsAreOrdered : Type 0 where
 abbrev pub SpansContainEachDirection : Type 0
 SpansContainEachDirection = (F c s r c' s' r' x y z : ℕ) (c_lo c_hi s_lo s_hi : ℤ)
     → IsDirection c s r → IsDirection c' s' r' → IsBracket F c s r c' s' r' c_lo c_hi s_lo s_hi
-    → IsDirection x y z → IsWithin c s c' s' x y
+    → IsDirection x y z → IsDirectionWithin c s c' s' x y
     → ContainsRatio F c_lo c_hi (pos x) z × ContainsRatio F s_lo s_hi (pos y) z
 
 -- no span that contains the cosine of each direction in a bracket is narrower than the bracket's, and so for the sine
 abbrev pub SpansAreLeast : Type 0
 SpansAreLeast = (F c s r c' s' r' : ℕ) (c_lo c_hi s_lo s_hi lo hi : ℤ)
     → IsDirection c s r → IsDirection c' s' r' → IsBracket F c s r c' s' r' c_lo c_hi s_lo s_hi
-    → (((x y z : ℕ) → IsDirection x y z → IsWithin c s c' s' x y → ContainsRatio F lo hi (pos x) z) → (lo ≤ℤ c_lo) × (c_hi ≤ℤ hi))
-    × (((x y z : ℕ) → IsDirection x y z → IsWithin c s c' s' x y → ContainsRatio F lo hi (pos y) z) → (lo ≤ℤ s_lo) × (s_hi ≤ℤ hi))
+    → (((x y z : ℕ) → IsDirection x y z → IsDirectionWithin c s c' s' x y → ContainsRatio F lo hi (pos x) z) → (lo ≤ℤ c_lo) × (c_hi ≤ℤ hi))
+    × (((x y z : ℕ) → IsDirection x y z → IsDirectionWithin c s c' s' x y → ContainsRatio F lo hi (pos y) z) → (lo ≤ℤ s_lo) × (s_hi ≤ℤ hi))
