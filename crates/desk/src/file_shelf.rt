@@ -4,7 +4,7 @@ ghost use Rattle.std.specs.Prelude.{◌≡◌, ◌≤◌, None, vec_len};
 use crate::{Shelf, ShelfFault};
 use std::alloc::Global;
 use std::fs;
-use std::io::Read;
+use std::io::{self, Read};
 use std::rt::Files;
 
 /// Files by their paths.
@@ -47,7 +47,7 @@ fn read_named<R: Files>(rt: &R, name: &str, bytes: &mut Vec<u8>, most: usize) ->
 {
     match fs::open(rt, name) {
         Ok(mut file) => read_up_to(&mut file, bytes, most),
-        Err(_) => Found::Failed,
+        Err(error) => found_at(&error),
     }
 }
 
@@ -74,10 +74,18 @@ fn read_up_to<F: Read>(file: &mut F, bytes: &mut Vec<u8>, most: usize) -> Found
                     return Found::Memory;
                 }
             }
-            Err(_) => return Found::Failed,
+            Err(error) => return found_at(&error),
         }
     }
     unreachable!()
+}
+
+// Want of memory is no fault of the file.
+fn found_at(error: &io::Error) -> Found {
+    match error.kind() {
+        io::ErrorKind::OutOfMemory => Found::Memory,
+        _ => Found::Failed,
+    }
 }
 
 impl<R: Files> Shelf for FileShelf<'_, R> {
