@@ -15,9 +15,9 @@ digits_one_by_one (b ∷ bs) = ap (λ t. is_ascii_digit b && t) (digits_one_by_o
 numerals : IsNumeralModel (λ ds. all_ascii_digits ds ≡ true) (digits_value 10)
 numerals = numerals_by_value _ tells_all_ascii_digits
 
--- a word of one to six digits is read as its value
-pub number-parses : {E : Type 0} (word : List ℕ) (r : Result ℕ E) → ParsesUnsigned 32 10 word r → is_number_word word ≡ true → r ≡ Ok (digits_value 10 word)
-number-parses word r parses number = parse_gives numerals 32 word r parses digits some small
+-- a word of at most 19 digits is read as its value
+pub number-parses : {E : Type 0} (digits : ℕ) (word : List ℕ) (r : Result ℕ E) → ParsesUnsigned 64 10 word r → digits ≤ 19 → is_number_word digits word ≡ true → r ≡ Ok (digits_value 10 word)
+number-parses digits word r parses few number = parse_gives numerals 64 word r parses all_digits some small
   where
     parts : (a b c : Bool) → ((a && b) && c) ≡ true → (a ≡ true) × (b ≡ true) × (c ≡ true)
     parts true true true h = (refl, refl, refl)
@@ -34,33 +34,36 @@ number-parses word r parses number = parse_gives numerals 32 word r parses digit
         no : false ≡ true → ⊥
         no h = cc
 
-    all : (nat_le 1 (length word) ≡ true) × (nat_le (length word) 6 ≡ true) × (list_all is_ascii_digit word ≡ true)
+    all : (nat_le 1 (length word) ≡ true) × (nat_le (length word) digits ≡ true) × (list_all is_ascii_digit word ≡ true)
     all = parts _ _ _ number
 
-    digits : all_ascii_digits word ≡ true
-    digits = sym (digits_one_by_one word) ∙ all.2
+    all_digits : all_ascii_digits word ≡ true
+    all_digits = sym (digits_one_by_one word) ∙ all.2
 
     some : 0 < length word
     some = grind (arith, all.0)
 
-    few : length word ≤ 6
-    few = grind (arith, all.1)
+    short : length word ≤ digits
+    short = grind (arith, all.1)
 
-    small : digits_value 10 word < 2 ^ 32
-    small = omega (arith, digits_value_short numerals word 6 digits few)
+    within : length word ≤ 19
+    within = omega (arith, short, few)
 
-pub number-is_read : {E : Type 0} (word : List ℕ) (e : E) → ParsesUnsigned 32 10 word (Err e) → is_number_word word ≡ true → ⊥
-number-is_read word e parses number = no (number-parses word (Err e) parses number)
+    small : digits_value 10 word < 2 ^ 64
+    small = omega (arith, digits_value_short numerals word 19 all_digits within)
+
+pub number-is_read : {E : Type 0} (digits : ℕ) (word : List ℕ) (e : E) → ParsesUnsigned 64 10 word (Err e) → digits ≤ 19 → is_number_word digits word ≡ true → ⊥
+number-is_read digits word e parses few number = no (number-parses digits word (Err e) parses few number)
   where
     no : {E : Type 0} {e : E} {n : ℕ} → Err e ≡ Ok n → ⊥
     no h = cc
 
 -- what a word is as a number, by its value
-pub number_found : (most n : ℕ) (word : List ℕ) → is_number_word word ≡ true → digits_value 10 word ≡ n → n ≤ most → Some n ≡ number_in most word
-number_found most n word number value small = grind (arith, common_steps)
+pub number_found : (digits most n : ℕ) (word : List ℕ) → is_number_word digits word ≡ true → digits_value 10 word ≡ n → n ≤ most → Some n ≡ number_in digits most word
+number_found digits most n word number value small = grind (arith, common_steps)
 
-pub number_past : (most n : ℕ) (word : List ℕ) → is_number_word word ≡ true → digits_value 10 word ≡ n → most < n → None ≡ number_in most word
-number_past most n word number value large = grind (arith, common_steps)
+pub number_past : (digits most n : ℕ) (word : List ℕ) → is_number_word digits word ≡ true → digits_value 10 word ≡ n → most < n → None ≡ number_in digits most word
+number_past digits most n word number value large = grind (arith, common_steps)
 
-pub no_number : (most : ℕ) (word : List ℕ) → is_number_word word ≡ false → None ≡ number_in most word
-no_number most word h = grind (arith, common_steps)
+pub no_number : (digits most : ℕ) (word : List ℕ) → is_number_word digits word ≡ false → None ≡ number_in digits most word
+no_number digits most word h = grind (arith, common_steps)

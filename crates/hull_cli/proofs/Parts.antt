@@ -1,5 +1,5 @@
 -- What one call of a run did, over the whole run.
-use Rattle.std.proofs.Common.{◌≡◌, ◌≤◌, ◌<◌, ◌+◌, ℕ, List, Option, IfSome, length, inr, refl, subst, arith}
+use Rattle.std.proofs.Common.{◌≡◌, ◌≤◌, ◌<◌, ◌+◌, ℕ, List, Option, IfSome, length, inl, inr, refl, subst, arith}
 use Rattle.desk.specs.Causes.{RoseBy, NoneFell}
 use Rattle.job_reader.specs.declared.job.Job.{Job}
 use Rattle.hull_report.specs.declared.line.Command.{Command}
@@ -8,9 +8,10 @@ use Rattle.hull_cli.specs.declared.stop.Refusal.{Refusal}
 use Rattle.hull_cli.specs.declared.stop.Refusal.TheVariants as refusal
 use Rattle.hull_cli.specs.declared.stop.Stop.{Stop}
 use Rattle.hull_cli.specs.declared.stop.Stop.TheVariants as stop
-use Rattle.hull_cli.specs.Answers.{DueToOffsets, JobRead, Read}
+use Rattle.offset_reader.specs.Offsets.{hull_of}
+use Rattle.hull_cli.specs.Answers.{BothRead, DueToOffsets, JobRead, Read}
 use Rattle.hull_cli.specs.Shelves.{Shelves, between, most_bytes, Fetched, Unread, TooLong}
-use Rattle.hull_cli.specs.Stops.{StopsOn, StopsReading}
+use Rattle.hull_cli.specs.Stops.{StopsOn, StopsReading, StopsTables}
 use Rattle.hull_cli.specs.Words.{tables}
 
 -- one of several calls, one after the other: what is held stays, and no count falls
@@ -66,20 +67,27 @@ module _ {part whole : Shelves} (is : IsPart part whole) where
   pub job_read : (name : List ℕ) (job : Job) → JobRead part name job → JobRead whole name job
   job_read name job r = (r.0, fetched name r.0 r.1, r.2)
 
-  pub offsets_read : (name bytes : List ℕ) → Read part name bytes → Read whole name bytes
+  offsets_read : (name bytes : List ℕ) → Read part name bytes → Read whole name bytes
   offsets_read name bytes r = (fetched name bytes r.0, r.1)
 
   due_to_offsets : (name : List ℕ) (cause : Refusal) → DueToOffsets part name cause → DueToOffsets whole name cause
-  due_to_offsets name refusal.Usage due = due
-  due_to_offsets name (refusal.Long file.Job) due = due
   due_to_offsets name (refusal.Long file.Offsets) due = too_long name due
-  due_to_offsets name (refusal.Job fault) due = due
   due_to_offsets name (refusal.Offsets fault) due = (due.0, fetched name due.0 due.1, due.2)
-  due_to_offsets name (refusal.Station named) due = due
+  due_to_offsets name _ due = due
 
   -- why there are no tables where no hull could be read after the job
   pub hull_stops : (command : Command) (name offsets : List ℕ) (job : Job) (why : Stop) → JobRead whole name job → StopsReading part offsets why → StopsOn whole (tables command name offsets) why
-  hull_stops command name offsets job (stop.Refused cause) read stops = inr (job, read, due_to_offsets offsets cause stops)
+  hull_stops command name offsets job (stop.Refused cause) read stops = inr (inl (job, read, due_to_offsets offsets cause stops))
   hull_stops command name offsets job (stop.Unread file.Job) read stops = absurd stops
   hull_stops command name offsets job (stop.Unread file.Offsets) read stops = (job, read, unread offsets stops)
   hull_stops command name offsets job stop.NoMemory read stops = tt
+
+-- why there are none where both files were read
+pub tables_stop : (shelves : Shelves) (command : Command) (name offsets : List ℕ) (job : Job) (bytes : List ℕ) (why : Stop) → BothRead shelves name offsets job bytes → StopsTables command job (hull_of bytes) why → StopsOn shelves (tables command name offsets) why
+tables_stop shelves command name offsets job bytes (stop.Refused cause) read stops = inr (inr (job, bytes, read, stops))
+tables_stop shelves command name offsets job bytes (stop.Unread file) read stops = absurd stops
+tables_stop shelves command name offsets job bytes stop.NoMemory read stops = tt
+
+-- of two calls that read a file each
+pub both_read : {first second whole : Shelves} → IsPart first whole → IsPart second whole → (name offsets : List ℕ) (job : Job) (bytes : List ℕ) → JobRead first name job → Read second offsets bytes → BothRead whole name offsets job bytes
+both_read is_one is_two name offsets job bytes one two = record { job_read = job_read is_one name job one; read = offsets_read is_two offsets bytes two }

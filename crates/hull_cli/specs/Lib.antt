@@ -8,4 +8,5 @@ pub mod Sections
 pub mod Shelves
 pub mod Stops
 pub mod Tables
+pub mod Verdicts
 pub mod Words

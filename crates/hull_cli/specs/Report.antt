@@ -4,7 +4,6 @@ use Rattle.hull_model.specs.declared.station.Station.{Station}
 use Rattle.hull_model.specs.Boundary.{sum_of}
 use Rattle.hull_model.specs.Tetrahedra.{hull_tetrahedra, six_times}
 use Rattle.job_reader.specs.declared.job.Job.{Job}
-use Rattle.hull_report.specs.Spelling.{lines_text}
 use Rattle.hull_report.specs.declared.line.Command.{Command}
 use Rattle.hull_report.specs.declared.line.Command.TheVariants as command
 use Rattle.hull_report.specs.declared.line.Line.{Line}
@@ -23,18 +22,18 @@ hull_line hull = line.Hull (length hull) (points_count hull)
 abbrev pub six_volume : List Station → ℤ
 six_volume hull = sum_of (λ t. pos (six_times t)) (hull_tetrahedra hull)
 
--- the report on one station of a hull
-pub record IsSectionReport (hull : List Station) (station draft : ℕ) (text : List ℕ) : Type 0 where
+-- the lines of the report on one station of a hull
+pub record IsSectionReport (hull : List Station) (station draft : ℕ) (lines : List Line) : Type 0 where
   pub row : Line
   pub right : IsSectionLine hull draft station row
-  pub lines : text ≡ lines_text (line.Header command.Section ∷ hull_line hull ∷ row ∷ line.End 4 ∷ [])
+  pub whole : lines ≡ line.Header command.Section ∷ hull_line hull ∷ row ∷ line.End 4 ∷ []
 
 -- the lines of a report that has a job: the header, the hull, the body, the rows of its tables, and the number of all lines
 abbrev pub whole_report : Command → List Station → List Line → List Line
 whole_report command hull rows = line.Header command ∷ hull_line hull ∷ line.Body (six_volume hull) ∷ rows ++ line.End (4 + length rows) ∷ []
 
--- the report of a command's tables
-pub record IsTablesReport (command : Command) (hull : List Station) (job : Job) (text : List ℕ) : Type 0 where
+-- the lines of the report of a command's tables
+pub record IsTablesReport (command : Command) (hull : List Station) (job : Job) (lines : List Line) : Type 0 where
   pub rows : List Line
   pub right : AreTableLines command hull job rows
-  pub lines : text ≡ lines_text (whole_report command hull rows)
+  pub whole : lines ≡ whole_report command hull rows

@@ -1,12 +1,14 @@
 -- Why there is no report.
 use Rattle.std.specs.Prelude.{ℕ, ◌≡◌, ◌≤◌, ⊤, List, length}
 use Rattle.hull_model.specs.declared.station.Station as model
+use Rattle.job_reader.specs.declared.job.Job.{Job}
+use Rattle.hull_report.specs.declared.line.Command.{Command}
 use Rattle.hull_cli.specs.declared.stop.File.{File}
 use Rattle.hull_cli.specs.declared.stop.File.TheVariants as file
 use Rattle.hull_cli.specs.declared.stop.Refusal.TheVariants.{Long, Station}
 use Rattle.hull_cli.specs.declared.stop.Stop.{Stop}
 use Rattle.hull_cli.specs.declared.stop.Stop.TheVariants as stop
-use Rattle.hull_cli.specs.Answers.{Due, DueTo, DueToJob, DueToOffsets, LeftUnread, UnreadBy}
+use Rattle.hull_cli.specs.Answers.{Due, DueTo, DueToCommand, DueToJob, DueToOffsets, LeftUnread, UnreadBy}
 use Rattle.hull_cli.specs.Shelves.{Shelves, TooLong, Unread}
 use Rattle.hull_cli.specs.Words.{Form}
 
@@ -51,3 +53,9 @@ StopsSection hull station (stop.Refused (Station named)) = (named ≡ station) �
 StopsSection hull station (stop.Refused _) = ⊥
 StopsSection hull station (stop.Unread _) = ⊥
 StopsSection hull station stop.NoMemory = ⊤
+
+-- why there is no report of this command on a job and a hull
+abbrev pub StopsTables : Command → Job → List model.Station → Stop → Type 0
+StopsTables command job hull (stop.Refused cause) = DueToCommand command job hull cause
+StopsTables command job hull (stop.Unread _) = ⊥
+StopsTables command job hull stop.NoMemory = ⊤

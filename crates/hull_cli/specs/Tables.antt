@@ -66,11 +66,15 @@ pub record IsHydroLine (hull : List Station) (water : Water) (draft : ℕ) (l : 
 abbrev pub AreHydroLines : List Station → Water → List ℕ → List Line → Type 0
 AreHydroLines hull water drafts lines = Pairwise (IsHydroLine hull water) drafts lines
 
+-- the lines of parts, one after the other, each in its relation to what it is made of
+abbrev pub Joined : {A : Type 0} → (A → List Line → Type 0) → List A → List Line → Type 0
+Joined part [] lines = lines ≡ []
+Joined part (one ∷ others) lines =
+    (first : List Line) × (later : List Line) × (lines ≡ first ++ later) × part one first × Joined part others later
+
 -- for each draft one line for each station, draft after draft
 abbrev pub AreBonjeanLines : List Station → List ℕ → List Line → Type 0
-AreBonjeanLines hull [] lines = lines ≡ []
-AreBonjeanLines hull (draft ∷ drafts) lines =
-    (first : List Line) × (later : List Line) × (lines ≡ first ++ later) × AreSectionLines hull draft first × AreBonjeanLines hull drafts later
+AreBonjeanLines hull drafts lines = Joined (AreSectionLines hull) drafts lines
 
 -- the lines of a command's tables
 abbrev pub AreTableLines : Command → List Station → Job → List Line → Type 0

@@ -19,13 +19,13 @@ abbrev pub is_name_word : List ℕ → Bool
 is_name_word [] = false
 is_name_word (first ∷ rest) = not (first == 45)
 
--- a word of one to six decimal digits
-abbrev pub is_number_word : List ℕ → Bool
-is_number_word word = (nat_le 1 (length word) && nat_le (length word) 6) && list_all is_ascii_digit word
+-- a word of decimal digits: at least one, and at most so many
+abbrev pub is_number_word : ℕ → List ℕ → Bool
+is_number_word digits word = (nat_le 1 (length word) && nat_le (length word) digits) && list_all is_ascii_digit word
 
 -- the number of such a word, where it is at most this
-abbrev pub number_in : ℕ → List ℕ → Option ℕ
-number_in most word = if is_number_word word && nat_le (digits_value 10 word) most then Some (digits_value 10 word) else None
+abbrev pub number_in : ℕ → ℕ → List ℕ → Option ℕ
+number_in digits most word = if is_number_word digits word && nat_le (digits_value 10 word) most then Some (digits_value 10 word) else None
 
 -- section OFFSETS STATION DRAFT
 abbrev pub section_form : List ℕ → Option ℕ → Option ℕ → Option Form
@@ -51,7 +51,7 @@ tables_form None job offsets = None
 -- the form of these words, if they have one
 abbrev pub form_of : List (List ℕ) → Option Form
 form_of (command ∷ offsets ∷ station ∷ draft ∷ []) =
-    if bytes_eq command (codes "section") then section_form offsets (number_in 999999 station) (number_in 131071 draft) else None
+    if bytes_eq command (codes "section") then section_form offsets (number_in 6 999999 station) (number_in 6 131071 draft) else None
 form_of (command ∷ job ∷ offsets ∷ []) = tables_form (table_command command) job offsets
 form_of words = None
 

@@ -1,7 +1,8 @@
 // The top call: from words to the bytes of a report.
 ghost use Rattle.std.specs.Prelude.{◌≡◌, ◌≢◌, ◌≤◌, ◌<◌, ◌⊎◌, true, false, List, ℕ, Some, None, IfOk, IfErr, map, length, take, string_bytes};
 ghost use Rattle.desk.specs.Causes.{Rose, NeverFails, NeverFailsToTake, AppendedIfTold};
-ghost use Rattle.hull_cli.specs.Answers.{Answers, CanBeGiven, Decides, Reports, ReportsOn};
+ghost use Rattle.hull_report.specs.Spelling.{AreLines};
+ghost use Rattle.hull_cli.specs.Answers.{Answers, CanBeGiven, Decides, Reports, ReportsOn, ReportsWith};
 ghost use Rattle.hull_cli.specs.Requests.{form_seen};
 ghost use Rattle.hull_cli.specs.Shelves.{between};
 ghost use Rattle.hull_cli.specs.Stops.{Stops, StopsOn};
@@ -13,10 +14,11 @@ use crate::section::section_report;
 use crate::status::Status;
 use crate::stop::{Refusal, Stop};
 use crate::tables::tables_report;
+use crate::verdict::report_status;
 use crate::words::{Request, request_of};
 use desk::{Shelf, Sink};
 use exact_fraction::Memory;
-use hull_report::Command;
+use hull_report::{Command, Line, text_of};
 use std::alloc::Global;
 
 /// Does what the words say: reads from the shelf, and writes one report, `refused` line or `fault` line to
@@ -25,14 +27,13 @@ use std::alloc::Global;
 /// `words` are the command's words without the program's name. The whole text is made before the first
 /// byte is written.
 pub fn run<S: Shelf, K: Sink>(alloc: Global, words: &[String], shelf: &mut S, out: &mut K) -> Status
-    ensures answers { Answers (between S.held S.faults S.taken shelf.old shelf.new) (map string_bytes words.now) result
-        (K.faults out.old) (K.faults out.new) (K.taken out.old) (K.taken out.new) }
+    ensures answers { Answers K.faults K.taken (between S.held S.faults S.taken shelf.old shelf.new) (map string_bytes words.now) result out.old out.new }
     ensures same { (n : List ℕ) → S.held shelf.new n ≡ S.held shelf.old n }
     ensures no_fetch { form_of (map string_bytes words.now) ≡ None → shelf.new ≡ shelf.old }
     ensures complete { (form : Form) → form_of (map string_bytes words.now) ≡ Some form
         → CanBeGiven (between S.held S.faults S.taken shelf.old shelf.new) form
         → ¬ (Rose (K.faults out.old) (K.faults out.new))
-        → (result ≡ Status.Done) ⊎ (result ≡ Status.NoMemory) }
+        → ReportsWith (between S.held S.faults S.taken shelf.old shelf.new) (map string_bytes words.now) result ⊎ (result ≡ Status.NoMemory) }
 
     // Over stores that never fail, as `SureShelf` and `SureSink`.
     ensures sure { NeverFails S.faults → NeverFailsToTake K.faults → (result ≢ Status.ReadFault) × (result ≢ Status.WriteFault) }
@@ -62,9 +63,9 @@ fn answer_of<S: Shelf>(alloc: Global, words: &[String], shelf: &mut S) -> Result
     ensures no_fetch { form_of (map string_bytes words.now) ≡ None → shelf.new ≡ shelf.old }
 {
     match report_of(alloc, words, shelf) {
-        Ok(text) => Ok(Answer {
-            text,
-            status: Status::Done,
+        Ok(lines) => Ok(Answer {
+            text: text_of(alloc, &lines)?,
+            status: report_status(&lines),
         }),
         Err(Stop::Refused(refusal)) => Ok(Answer {
             text: refusal.text(alloc)?,
@@ -78,8 +79,9 @@ fn answer_of<S: Shelf>(alloc: Global, words: &[String], shelf: &mut S) -> Result
     }
 }
 
-fn report_of<S: Shelf>(alloc: Global, words: &[String], shelf: &mut S) -> Result<Vec<u8>, Stop>
-    ensures reports { IfOk result (λ text. Reports (between S.held S.faults S.taken shelf.old shelf.new) (map string_bytes words.now) text.items) }
+fn report_of<S: Shelf>(alloc: Global, words: &[String], shelf: &mut S) -> Result<Vec<Line>, Stop>
+    ensures reports { IfOk result (λ lines. Reports (between S.held S.faults S.taken shelf.old shelf.new) (map string_bytes words.now) lines.items) }
+    ensures grammar { IfOk result (λ lines. AreLines lines.items) }
     ensures stops { IfErr result (Stops (between S.held S.faults S.taken shelf.old shelf.new) (map string_bytes words.now)) }
     ensures same { (n : List ℕ) → S.held shelf.new n ≡ S.held shelf.old n }
     ensures no_fetch { form_of (map string_bytes words.now) ≡ None → shelf.new ≡ shelf.old }
@@ -90,9 +92,14 @@ fn report_of<S: Shelf>(alloc: Global, words: &[String], shelf: &mut S) -> Result
     }
 }
 
-fn report_on<S: Shelf>(alloc: Global, request: Request<'_>, shelf: &mut S) -> Result<Vec<u8>, Stop>
+fn report_on<S: Shelf>(
+    alloc: Global,
+    request: Request<'_>,
+    shelf: &mut S,
+) -> Result<Vec<Line>, Stop>
     requires { IsServed (form_seen request) }
-    ensures reports { IfOk result (λ text. ReportsOn (between S.held S.faults S.taken shelf.old shelf.new) (form_seen request.entry) text.items) }
+    ensures reports { IfOk result (λ lines. ReportsOn (between S.held S.faults S.taken shelf.old shelf.new) (form_seen request.entry) lines.items) }
+    ensures grammar { IfOk result (λ lines. AreLines lines.items) }
     ensures stops { IfErr result (StopsOn (between S.held S.faults S.taken shelf.old shelf.new) (form_seen request.entry)) }
     ensures same { (n : List ℕ) → S.held shelf.new n ≡ S.held shelf.old n }
 {
@@ -116,9 +123,10 @@ fn section_on<S: Shelf>(
     offsets: &str,
     station: u32,
     draft: u32,
-) -> Result<Vec<u8>, Stop>
+) -> Result<Vec<Line>, Stop>
     requires { draft ≤ 131071 }
-    ensures reports { IfOk result (λ text. ReportsOn (between S.held S.faults S.taken shelf.old shelf.new) (form.section offsets.now station draft) text.items) }
+    ensures reports { IfOk result (λ lines. ReportsOn (between S.held S.faults S.taken shelf.old shelf.new) (form.section offsets.now station draft) lines.items) }
+    ensures grammar { IfOk result (λ lines. AreLines lines.items) }
     ensures stops { IfErr result (StopsOn (between S.held S.faults S.taken shelf.old shelf.new) (form.section offsets.now station draft)) }
     ensures same { (n : List ℕ) → S.held shelf.new n ≡ S.held shelf.old n }
 {
@@ -132,15 +140,16 @@ fn tables_on<S: Shelf>(
     command: Command,
     job: &str,
     offsets: &str,
-) -> Result<Vec<u8>, Stop>
+) -> Result<Vec<Line>, Stop>
     requires { HasTables command }
-    ensures reports { IfOk result (λ text. ReportsOn (between S.held S.faults S.taken shelf.old shelf.new) (form.tables command job.now offsets.now) text.items) }
+    ensures reports { IfOk result (λ lines. ReportsOn (between S.held S.faults S.taken shelf.old shelf.new) (form.tables command job.now offsets.now) lines.items) }
+    ensures grammar { IfOk result (λ lines. AreLines lines.items) }
     ensures stops { IfErr result (StopsOn (between S.held S.faults S.taken shelf.old shelf.new) (form.tables command job.now offsets.now)) }
     ensures same { (n : List ℕ) → S.held shelf.new n ≡ S.held shelf.old n }
 {
     let job = read_job_file(alloc, shelf, job)?;
     let hull = read_hull(alloc, shelf, offsets)?;
-    Ok(tables_report(alloc, command, &hull, &job)?)
+    tables_report(alloc, command, &hull, &job)
 }
 
 // Puts what isn't taken yet until all is: false where a put failed.

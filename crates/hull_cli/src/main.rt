@@ -11,6 +11,7 @@ mod section;
 mod status;
 mod stop;
 mod tables;
+mod verdict;
 mod words;
 
 pub use commands::run;

@@ -1,9 +1,9 @@
 // Words and numbers of a line that refuses.
 ghost use Rattle.std.specs.Prelude.{◌≡◌, ◌++◌, OnOk, string_bytes};
-ghost use Rattle.hull_cli.specs.Faults.{word_text, number_text, place_text, field_text};
+ghost use Rattle.hull_cli.specs.Faults.{word_text, place_text, field_text};
 
 use exact_fraction::Memory;
-use itoa::Buffer;
+use itoa::{Buffer, Integer};
 
 /// Appends a space and a word.
 pub(crate) fn push_word(text: &mut String, word: &str) -> Result<(), Memory>
@@ -15,8 +15,8 @@ pub(crate) fn push_word(text: &mut String, word: &str) -> Result<(), Memory>
 }
 
 /// Appends a space and a whole number.
-pub(crate) fn push_number(text: &mut String, number: u32) -> Result<(), Memory>
-    ensures { OnOk result (string_bytes text.new ≡ string_bytes text.old ++ number_text number) }
+pub(crate) fn push_number<N: Integer>(text: &mut String, number: N) -> Result<(), Memory>
+    ensures { OnOk result (string_bytes text.new ≡ string_bytes text.old ++ word_text (N.text number)) }
 {
     let mut digits = Buffer::new();
     push_word(text, digits.format(number))

@@ -11,7 +11,7 @@ use crate::stop::{Refusal, Stop};
 use bonjean_curves::section;
 use exact_fraction::Memory;
 use hull_model::{Hull, Station};
-use hull_report::{Command, Line, text_of};
+use hull_report::{Command, Line};
 use std::alloc::Global;
 
 /// The report on one station.
@@ -20,9 +20,10 @@ pub(crate) fn section_report(
     hull: &Hull,
     station: u32,
     draft: u32,
-) -> Result<Vec<u8>, Stop>
+) -> Result<Vec<Line>, Stop>
     requires { draft ≤ 131071 }
-    ensures reports { IfOk result (λ text. IsSectionReport hull.now station draft text.items) }
+    ensures reports { IfOk result (λ lines. IsSectionReport hull.now station draft lines.items) }
+    ensures grammar { IfOk result (λ lines. AreLines lines.items) }
     ensures stops { IfErr result (StopsSection hull.now station) }
 {
     if station as usize >= hull.stations().len() {
@@ -36,7 +37,7 @@ pub(crate) fn section_report(
         section_line(hull, station as usize, draft),
         Line::End { lines: 4 },
     ];
-    Ok(text_of(alloc, &lines)?)
+    Ok(Vec::from_slice(alloc, &lines)?)
 }
 
 /// The lines of all stations at a draft.

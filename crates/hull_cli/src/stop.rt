@@ -6,7 +6,7 @@ use crate::refused::{push_place, push_word};
 use exact_fraction::Memory;
 use job_reader::JobFault;
 use offset_reader::OffsetFault;
-use std::alloc::Global;
+use std::alloc::{AllocError, Global};
 
 /// The files that a run reads.
 #[derive(Clone, Copy, Debug)]
@@ -45,6 +45,16 @@ impl From<Memory> for Stop {
     ghost from_gives = { λ _ stop. stop ≡ NoMemory };
 
     fn from(_: Memory) -> Stop {
+        Stop::NoMemory
+    }
+}
+
+impl From<AllocError> for Stop {
+    ghost use Rattle.hull_cli.specs.declared.stop.Stop.TheVariants.{NoMemory};
+
+    ghost from_gives = { λ _ stop. stop ≡ NoMemory };
+
+    fn from(_: AllocError) -> Stop {
         Stop::NoMemory
     }
 }

@@ -1,5 +1,5 @@
 // Tables over the drafts of a job.
-ghost use Rattle.std.specs.Prelude.{◌≡◌, ◌≤◌, ◌+◌, ◌*◌, true, [], ◌∷◌, ◌++◌, IfOk, length};
+ghost use Rattle.std.specs.Prelude.{◌≡◌, ◌≤◌, ◌+◌, ◌*◌, ◌^◌, true, [], ◌∷◌, ◌++◌, IfOk, IfErr, length};
 ghost use Rattle.std.specs.List.{list_all};
 ghost use Rattle.hull_model.specs.Body.{IsHull};
 ghost use Rattle.hull_polyhedron.specs.FacesOf.{AreFacesOf};
@@ -7,16 +7,18 @@ ghost use Rattle.job_reader.specs.Limits.{is_from};
 ghost use Rattle.hull_report.specs.Spelling.{AreLines};
 ghost use Rattle.hull_report.specs.declared.line.Line.TheVariants as line;
 ghost use Rattle.hull_cli.specs.Report.{IsTablesReport};
+ghost use Rattle.hull_cli.specs.Stops.{StopsTables};
 ghost use Rattle.hull_cli.specs.Tables.{AreBonjeanLines, AreTableLines};
 ghost use Rattle.hull_cli.specs.Words.{HasTables};
 
 use crate::hull_line::hull_line;
 use crate::hydro::hydro_lines;
 use crate::section::section_lines;
+use crate::stop::Stop;
 use exact_fraction::Memory;
 use hull_model::Hull;
 use hull_polyhedron::{Faces, faces_of, six_volume};
-use hull_report::{Command, Line, text_of};
+use hull_report::{Command, Line};
 use job_reader::Job;
 use std::alloc::Global;
 
@@ -26,9 +28,11 @@ pub(crate) fn tables_report(
     command: Command,
     hull: &Hull,
     job: &Job,
-) -> Result<Vec<u8>, Memory>
+) -> Result<Vec<Line>, Stop>
     requires { HasTables command }
-    ensures { IfOk result (λ text. IsTablesReport command hull.now job.now text.items) }
+    ensures reports { IfOk result (λ lines. IsTablesReport command hull.now job.now lines.items) }
+    ensures grammar { IfOk result (λ lines. AreLines lines.items) }
+    ensures stops { IfErr result (StopsTables command job.now hull.now) }
 {
     let faces = faces_of(alloc, hull)?;
     let first = [
@@ -39,8 +43,7 @@ pub(crate) fn tables_report(
         },
     ];
     let rows = table_lines(alloc, command, hull, &faces, job)?;
-    let lines = report_lines(alloc, &first, &rows)?;
-    text_of(alloc, &lines)
+    Ok(report_lines(alloc, &first, &rows)?)
 }
 
 fn table_lines(
@@ -49,18 +52,19 @@ fn table_lines(
     hull: &Hull,
     faces: &Faces,
     job: &Job,
-) -> Result<Vec<Line>, Memory>
+) -> Result<Vec<Line>, Stop>
     requires command { HasTables command }
     requires hull { IsHull hull.now }
     requires faces { AreFacesOf hull.now faces.now }
     ensures lines { IfOk result (λ lines. AreTableLines command hull.now job.now lines.items) }
-    ensures few { IfOk result (λ lines. length lines.items ≤ 4096) }
+    ensures few { IfOk result (λ lines. length lines.items ≤ 2 ^ 31) }
     ensures grammar { IfOk result (λ lines. AreLines lines.items) }
+    ensures stops { IfErr result (StopsTables command job.now hull.now) }
 {
     let drafts = job.drafts.as_slice();
     match command {
-        Command::Hydro => hydro_lines(alloc, faces, &job.water, drafts),
-        Command::Bonjean => bonjean_lines(alloc, hull, drafts),
+        Command::Hydro => Ok(hydro_lines(alloc, faces, &job.water, drafts)?),
+        Command::Bonjean => Ok(bonjean_lines(alloc, hull, drafts)?),
         _ => unreachable!(),
     }
 }
@@ -81,7 +85,7 @@ fn bonjean_lines(alloc: Global, hull: &Hull, drafts: &[u32]) -> Result<Vec<Line>
 
 // Rows between the first lines and the last, which counts all.
 fn report_lines(alloc: Global, first: &[Line; 3], rows: &[Line]) -> Result<Vec<Line>, Memory>
-    requires few { length rows.now ≤ 4096 }
+    requires few { length rows.now ≤ 2 ^ 31 }
     requires first { AreLines first.now }
     requires rows { AreLines rows.now }
     ensures lines { IfOk result (λ lines. lines.items ≡ first.now ++ (rows.now ++ line.End (4 + length rows.now) ∷ [])) }

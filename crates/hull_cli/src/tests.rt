@@ -1,8 +1,6 @@
-mod bonjean;
 mod cargo;
-mod hydro;
-mod jobs;
 mod refusals;
+mod reports;
 mod words;
 
 ghost use Rattle.std.specs.Prelude.{◌≢◌};
@@ -12,19 +10,23 @@ use desk::{MemShelf, MemSink, SureShelf, SureSink};
 use std::alloc::{AllocError, Global};
 use std::test::Fail;
 
+// Files and reports stand here with a slash for each line feed.
 const BARGE: &str =
-    "0,10000,0\n0,10000,10000\n50000,10000,0\n50000,10000,10000\n100000,10000,0\n100000,10000,10000\n";
+    "0,10000,0/0,10000,10000/50000,10000,0/50000,10000,10000/100000,10000,0/100000,10000,10000/";
 
-const WEDGE: &str =
-    "0,0,0\n0,10000,10000\n50000,0,0\n50000,10000,10000\n100000,0,0\n100000,10000,10000\n";
+const JOB: &str = "version = 1/density = 1025/length_bp = 100000/drafts = [5000]/";
 
-const BARGE_REPORT: &str =
-    "hullcert 1 section\nhull 3 6\nsection 1 50000 5000 [100.000000,100.000000] [250.000000000,250.000000000]\nend 4\n";
+const REPORT: &str =
+    "hullcert 1 section/hull 3 6/section 1 50000 5000 [100.000000,100.000000] [250.000000000,250.000000000]/end 4/";
 
-#[derive(Drop)]
-struct Outcome {
-    status: Status,
-    text: String,
+fn bytes_of(alloc: Global, text: &str) -> Result<Vec<u8>, AllocError> {
+    let mut bytes = text.as_bytes().to_vec(alloc)?;
+    for byte in &mut bytes {
+        if *byte == b'/' {
+            *byte = b'\n';
+        }
+    }
+    Ok(bytes)
 }
 
 // Words that are parted by a bar; no text has no words.
@@ -38,96 +40,113 @@ fn words_of(alloc: Global, text: &str) -> Result<Vec<String>, AllocError> {
     Ok(words)
 }
 
-fn files_of(alloc: Global, name: &str, bytes: &[u8]) -> Result<Vec<(String, Vec<u8>)>, AllocError> {
+fn files_of(
+    alloc: Global,
+    job: Vec<u8>,
+    hull: Vec<u8>,
+) -> Result<Vec<(String, Vec<u8>)>, AllocError> {
     let mut files = Vec::new(alloc);
-    files.push((String::from_str(alloc, name)?, bytes.to_vec(alloc)?))?;
+    files.push((String::from_str(alloc, "job.toml")?, job))?;
+    files.push((String::from_str(alloc, "hull.csv")?, hull))?;
     Ok(files)
 }
 
-// What a run answers and writes, with a sink that takes 25 bytes at once.
-fn outcome_at(alloc: Global, words: &str, shelf: &mut MemShelf) -> Result<Outcome, Fail> {
-    let words = words_of(alloc, words)?;
-    let mut out = MemSink::new(alloc, 4096, 25, Vec::new(alloc))?;
-    let status = run(alloc, &words, shelf, &mut out);
-    let text = String::from_str(alloc, str::from_utf8(out.taken())?)?;
-    Ok(Outcome { status, text })
-}
-
-// The same with one file on the shelf.
-fn outcome_of(alloc: Global, words: &str, name: &str, bytes: &[u8]) -> Result<Outcome, Fail> {
-    let mut shelf = MemShelf::of(files_of(alloc, name, bytes)?, Vec::new(alloc));
-    outcome_at(alloc, words, &mut shelf)
-}
-
-// The same with a job and a hull on the shelf, for a command with its two files; the fetches of these numbers fail.
-fn outcome_of_job(
+// A shelf whose fetches of these numbers fail.
+fn shelf_of(
     alloc: Global,
-    command: &str,
-    job: &[u8],
-    hull: &[u8],
+    job: Vec<u8>,
+    hull: Vec<u8>,
     fails: Vec<u64>,
-) -> Result<Outcome, Fail> {
-    let mut files = files_of(alloc, "job.toml", job)?;
-    files.push((String::from_str(alloc, "hull.csv")?, hull.to_vec(alloc)?))?;
-    let words = format!(in alloc; "{command}|job.toml|hull.csv")?;
-    outcome_at(alloc, words.as_str(), &mut MemShelf::of(files, fails))
+) -> Result<MemShelf, AllocError> {
+    Ok(MemShelf::of(files_of(alloc, job, hull)?, fails))
+}
+
+// Whether a run ends with this code and writes this text, to a sink that takes 25 bytes at once.
+fn answers(
+    alloc: Global,
+    shelf: &mut MemShelf,
+    words: &str,
+    code: u8,
+    text: &str,
+) -> Result<bool, Fail> {
+    let words = words_of(alloc, words)?;
+    let wanted = bytes_of(alloc, text)?;
+    let mut out = MemSink::new(alloc, 16384, 25, Vec::new(alloc))?;
+    let status = run(alloc, &words, shelf, &mut out);
+    Ok(status.code() == code && out.taken() == wanted.as_slice())
+}
+
+// The first case that is answered otherwise: its exit code, what is written, the words, and a job and a hull where they
+// aren't those above.
+fn wrong_case(alloc: Global, cases: &str) -> Result<Option<&str>, Fail> {
+    for case in cases.lines() {
+        let mut fields = case.split('@');
+        let code = fields.next().ok_or("no code")?.parse::<u8>()?;
+        let text = fields.next().ok_or("no text")?;
+        let words = fields.next().ok_or("no words")?;
+        let job = bytes_of(alloc, fields.next().unwrap_or(JOB))?;
+        let hull = bytes_of(alloc, fields.next().unwrap_or(BARGE))?;
+        let mut shelf = shelf_of(alloc, job, hull, Vec::new(alloc))?;
+        if !answers(alloc, &mut shelf, words, code, text)? {
+            return Ok(Some(case));
+        }
+    }
+    Ok(None)
+}
+
+fn tables_answer(
+    alloc: Global,
+    hull: Vec<u8>,
+    fails: Vec<u64>,
+    code: u8,
+    text: &str,
+) -> Result<bool, Fail> {
+    let mut shelf = shelf_of(alloc, bytes_of(alloc, JOB)?, hull, fails)?;
+    answers(alloc, &mut shelf, "bonjean|job.toml|hull.csv", code, text)
 }
 
 #[test]
-fn the_barge_at_half_its_depth(rt: HostRuntime) -> Result<(), Fail> {
-    let outcome = outcome_of(
-        rt.alloc(),
-        "section|barge.csv|1|5000",
-        "barge.csv",
-        BARGE.as_bytes(),
-    )?;
-    assert_eq!(rt; outcome.status, Status::Done);
-    assert_eq!(rt; outcome.status.code(), 0);
-    assert_eq!(rt; outcome.text.as_str(), BARGE_REPORT);
-    Ok(())
-}
-
-#[test]
-fn the_wedge_near_its_keel(rt: HostRuntime) -> Result<(), Fail> {
-    let outcome = outcome_of(
-        rt.alloc(),
-        "section|wedge.csv|1|1000",
-        "wedge.csv",
-        WEDGE.as_bytes(),
-    )?;
-    let report =
-        "hullcert 1 section\nhull 3 6\nsection 1 50000 1000 [1.000000,1.000000] [0.666666666,0.666666667]\nend 4\n";
-    assert_eq!(rt; outcome.status, Status::Done);
-    assert_eq!(rt; outcome.text.as_str(), report);
-    Ok(())
-}
-
-#[test]
-fn a_long_file_is_refused(rt: HostRuntime) -> Result<(), Fail> {
-    let long = vec![in rt.alloc(); b'0'; 1_048_577]?;
-    let outcome = outcome_of(rt.alloc(), "section|long.csv|1|5000", "long.csv", &long)?;
-    assert_eq!(rt; outcome.status, Status::Refused);
-    assert_eq!(rt; outcome.text.as_str(), "refused long offsets\n");
-    Ok(())
-}
-
-#[test]
-fn a_failing_fetch_and_a_full_sink_have_their_statuses(rt: HostRuntime) -> Result<(), Fail> {
+fn long_files_are_refused(rt: HostRuntime) -> Result<(), Fail> {
     let alloc = rt.alloc();
-    let words = words_of(alloc, "section|barge.csv|1|5000")?;
-    let files = files_of(alloc, "barge.csv", BARGE.as_bytes())?;
-    let mut shelf = MemShelf::of(files, vec![in alloc; 1]?);
-    let mut out = MemSink::new(alloc, 60, 25, Vec::new(alloc))?;
-    assert_eq!(rt; run(alloc, &words, &mut shelf, &mut out), Status::ReadFault);
-    assert_eq!(rt; out.taken(), b"fault read offsets\n".as_slice());
+    let long = vec![in alloc; b'0'; 1_048_577]?;
+    assert!(rt; tables_answer(alloc, long, Vec::new(alloc), 3, "refused long offsets/")?);
+    let long = vec![in alloc; b'0'; 1_048_577]?;
+    let mut shelf = shelf_of(alloc, long, Vec::new(alloc), Vec::new(alloc))?;
+    assert!(rt;
+        answers(
+            alloc,
+            &mut shelf,
+            "hydro|job.toml|hull.csv",
+            3,
+            "refused long job/"
+        )?
+    );
+    Ok(())
+}
 
+#[test]
+fn a_failing_fetch_names_its_file(rt: HostRuntime) -> Result<(), Fail> {
+    let alloc = rt.alloc();
+    let hull = bytes_of(alloc, BARGE)?;
+    assert!(rt; tables_answer(alloc, hull, vec![in alloc; 1]?, 4, "fault read job/")?);
+    let hull = bytes_of(alloc, BARGE)?;
+    assert!(rt; tables_answer(alloc, hull, vec![in alloc; 2]?, 4, "fault read offsets/")?);
+    Ok(())
+}
+
+#[test]
+fn a_full_sink_has_a_part(rt: HostRuntime) -> Result<(), Fail> {
+    let alloc = rt.alloc();
+    let words = words_of(alloc, "section|hull.csv|1|5000")?;
+    let hull = bytes_of(alloc, BARGE)?;
+    let mut shelf = shelf_of(alloc, Vec::new(alloc), hull, Vec::new(alloc))?;
     let mut out = MemSink::new(alloc, 60, 25, Vec::new(alloc))?;
     assert_eq!(rt;
         run(alloc, &words, &mut shelf, &mut out),
         Status::WriteFault
     );
-    let (kept, _) = BARGE_REPORT.split_at(60);
-    assert_eq!(rt; out.taken(), kept.as_bytes());
+    let (part, _) = REPORT.split_at(60);
+    assert_eq!(rt; out.taken(), bytes_of(alloc, part)?.as_slice());
     Ok(())
 }
 
@@ -142,13 +161,14 @@ fn run_surely(alloc: Global, words: &[String], shelf: &mut SureShelf, out: &mut 
 #[test]
 fn sure_stores_give_the_same_report(rt: HostRuntime) -> Result<(), Fail> {
     let alloc = rt.alloc();
-    let words = words_of(alloc, "section|barge.csv|1|5000")?;
-    let mut shelf = SureShelf::of(files_of(alloc, "barge.csv", BARGE.as_bytes())?);
+    let words = words_of(alloc, "section|hull.csv|1|5000")?;
+    let hull = bytes_of(alloc, BARGE)?;
+    let mut shelf = SureShelf::of(files_of(alloc, Vec::new(alloc), hull)?);
     let mut out = SureSink::new(alloc, 4096)?;
     assert_eq!(rt;
         run_surely(alloc, &words, &mut shelf, &mut out),
         Status::Done
     );
-    assert_eq!(rt; out.taken(), BARGE_REPORT.as_bytes());
+    assert_eq!(rt; out.taken(), bytes_of(alloc, REPORT)?.as_slice());
     Ok(())
 }

@@ -8,10 +8,13 @@ ghost use Rattle.hull_cli.specs.Words.{form_of, IsServed, HasTables, section_for
 
 use hull_report::Command;
 
-/// The most digits of a station's number and of a draft.
-const MOST_DIGITS: usize = 6;
+/// The most digits of a station's number.
+const STATION_DIGITS: usize = 6;
 
-/// The greatest number of so many digits.
+/// The most digits of a draft.
+const DRAFT_DIGITS: usize = 6;
+
+/// The greatest number of a station's digits.
 const MOST_STATION: u32 = 999_999;
 
 /// The greatest draft, in mm.
@@ -51,11 +54,11 @@ pub(crate) fn request_of(words: &[String]) -> Option<Request<'_>>
 }
 
 fn section_request<'a>(offsets: &'a str, station: &str, draft: &str) -> Option<Request<'a>>
-    ensures form { option_map form_seen result ≡ section_form offsets.now (number_in 999999 station.now) (number_in 131071 draft.now) }
+    ensures form { option_map form_seen result ≡ section_form offsets.now (number_in 6 999999 station.now) (number_in 6 131071 draft.now) }
     ensures served { IfSome result (λ request. IsServed (form_seen request)) }
 {
-    let station = number_of(station, MOST_STATION)?;
-    let draft = number_of(draft, MOST_DRAFT)?;
+    let station = number_of(station, STATION_DIGITS, MOST_STATION)?;
+    let draft = number_of(draft, DRAFT_DIGITS, MOST_DRAFT)?;
     if !is_name(offsets) {
         return None;
     }
@@ -103,24 +106,31 @@ fn is_name(word: &str) -> bool
     }
 }
 
-// A number of one to six decimal digits, at most this.
-fn number_of(word: &str, most: u32) -> Option<u32>
-    ensures value { result ≡ number_in most word.now }
+// A number of at most so many decimal digits, at most this.
+fn number_of(word: &str, digits: usize, most: u32) -> Option<u32>
+    requires { digits ≤ 19 }
+    ensures value { result ≡ number_in digits most word.now }
     ensures within { IfSome result (λ number. number ≤ most) }
 {
-    if !is_number(word) {
+    if !is_number(word, digits) {
         return None;
     }
-    match word.parse::<u32>() {
-        Ok(number) => { if number <= most { Some(number) } else { None } }
+    match word.parse::<u64>() {
+        Ok(number) => {
+            if number <= u64::from(most) {
+                Some(number as u32)
+            } else {
+                None
+            }
+        }
         Err(_) => None,
     }
 }
 
-fn is_number(word: &str) -> bool
-    ensures { result ≡ is_number_word word.now }
+fn is_number(word: &str, digits: usize) -> bool
+    ensures { result ≡ is_number_word digits word.now }
 {
-    1 <= word.len() && word.len() <= MOST_DIGITS && are_digits(word.as_bytes())
+    1 <= word.len() && word.len() <= digits && are_digits(word.as_bytes())
 }
 
 fn are_digits(bytes: &[u8]) -> bool

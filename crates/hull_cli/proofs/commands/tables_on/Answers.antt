@@ -1,5 +1,6 @@
 use Rattle.std.proofs.lemmas.Result.{err_from_is_err_and}
-use Rattle.hull_cli.proofs.Parts.{is_first, is_second, job_read, offsets_read, hull_stops}
+use Rattle.hull_cli.proofs.Listed.{of_each_ok, of_each_err}
+use Rattle.hull_cli.proofs.Parts.{is_first, is_second, job_read, both_read, hull_stops, tables_stop}
 use Rattle.hull_cli.proofs.commands.tables_on.Goals as goal
 
 pub returns-in_err-hull-clause-stops : goal.returns-in_err-hull-clause-stops
@@ -19,10 +20,20 @@ returns-clause-reports g c =
     let first = is_first g.S.Shelf.held g.S.Shelf.faults g.S.Shelf.taken c.args.shelf.now c.read_job_file.new.shelf c.read_hull.new.shelf hull.faults_later hull.taken_later in
     let second = is_second g.S.Shelf.held g.S.Shelf.faults g.S.Shelf.taken c.args.shelf.now c.read_job_file.new.shelf c.read_hull.new.shelf job.same job.faults_later job.taken_later in
     let read = c.in_ok-hull.ensures.read in
-    record {
+    let both = both_read first second c.args.job.now c.args.offsets.now c.in_ok-job.job read.0 c.in_ok-job.ensures.read read.1 in
+    of_each_ok _ _ (λ lines report. record {
       job = c.in_ok-job.job;
-      job_read = job_read first c.args.job.now c.in_ok-job.job c.in_ok-job.ensures.read;
       bytes = read.0;
-      read = offsets_read second c.args.offsets.now read.0 read.1;
-      report = rw read.2 at c.in_ok-tables_report.ensures;
-    }
+      read = both;
+      report = rw read.2 at report;
+    }) c.tables_report.result c.tables_report.ensures.reports
+
+pub returns-clause-stops : goal.returns-clause-stops
+returns-clause-stops g c =
+    let job = c.read_job_file.ensures in
+    let hull = c.read_hull.ensures in
+    let first = is_first g.S.Shelf.held g.S.Shelf.faults g.S.Shelf.taken c.args.shelf.now c.read_job_file.new.shelf c.read_hull.new.shelf hull.faults_later hull.taken_later in
+    let second = is_second g.S.Shelf.held g.S.Shelf.faults g.S.Shelf.taken c.args.shelf.now c.read_job_file.new.shelf c.read_hull.new.shelf job.same job.faults_later job.taken_later in
+    let read = c.in_ok-hull.ensures.read in
+    let both = both_read first second c.args.job.now c.args.offsets.now c.in_ok-job.job read.0 c.in_ok-job.ensures.read read.1 in
+    of_each_err _ _ (λ why stops. tables_stop _ c.args.command c.args.job.now c.args.offsets.now c.in_ok-job.job read.0 why both (rw read.2 at stops)) c.tables_report.result c.tables_report.ensures.stops

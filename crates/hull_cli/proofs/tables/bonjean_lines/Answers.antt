@@ -1,7 +1,8 @@
 use Rattle.std.proofs.Common.{get_or, arith}
 use Rattle.std.proofs.lemmas.List.{take_more}
 use Rattle.hull_report.specs.Spelling.{IsLine}
-use Rattle.hull_cli.proofs.Listed.{all_more, bonjean_more}
+use Rattle.hull_cli.specs.Sections.{AreSectionLines}
+use Rattle.hull_cli.proofs.Listed.{all_more, joined_more}
 use Rattle.hull_cli.proofs.tables.bonjean_lines.Goals as goal
 
 pub loop-draft-preserved : goal.loop-draft-preserved
@@ -14,5 +15,5 @@ loop-draft-preserved c =
     record {
       count = omega (arith, inv.count, c.in_ok-extend_from_slice.ensures.len, c.deref.ensures.len, sections.count);
       grammar = rw items (all_more IsLine _ _ inv.grammar c.in_ok-sections.ensures.grammar);
-      rows = rw (items, take_more drafts i 0 c.loop-draft-test.true) (bonjean_more _ _ (get_or drafts i 0) _ _ inv.rows sections);
+      rows = rw (items, take_more drafts i 0 c.loop-draft-test.true) (joined_more (AreSectionLines c.args.hull.now) _ (get_or drafts i 0) _ _ inv.rows sections);
     }
