@@ -99,7 +99,7 @@ def spec_of(crate, name):
 def fault_forms(reader):
     """The forms of a reader's faults, as the program's specs spell them."""
     places = {"word": "", "place": " 1", "field": " 1 1", "entry": " KEY 1"}
-    found = re.findall(rf'{reader}_fault_text .*= (\w+)_text \(codes "(\w+)"\)', spec_of("hull_cli", "Faults.antt"))
+    found = re.findall(rf'{reader}_fault_text .*= (\w+)_text \(codes "(\w+)"\)', spec_of("report_run", "Faults.antt"))
     return [word + places[form] for form, word in found]
 
 
@@ -134,11 +134,11 @@ class Texts(unittest.TestCase):
         return self.texts.fill(entry, refusal_hints.filled(case, entry, self.texts)), [name for name, _ in hints]
 
     def test_the_specs_are_read(self):
-        self.assertEqual(len(fault_forms("offset")), len(re.findall(r"(?m)^offset_fault_text", spec_of("hull_cli", "Faults.antt"))))
-        self.assertEqual(len(fault_forms("job")), len(re.findall(r"(?m)^job_fault_text", spec_of("hull_cli", "Faults.antt"))))
+        self.assertEqual(len(fault_forms("offset")), len(re.findall(r"(?m)^offset_fault_text", spec_of("report_run", "Faults.antt"))))
+        self.assertEqual(len(fault_forms("job")), len(re.findall(r"(?m)^job_fault_text", spec_of("report_run", "Faults.antt"))))
         self.assertGreater(len(fault_forms("offset")) + len(fault_forms("job")), 20)
         self.assertGreater(len(keys_of_specs()), 25)
-        causes = re.findall(r"(?m)^cause_text \(?(\w+)", spec_of("hull_cli", "Refusals.antt"))
+        causes = re.findall(r"(?m)^cause_text \(?(\w+)", spec_of("report_run", "Refusals.antt"))
         self.assertEqual(sorted(causes), ["Job", "Long", "Offsets", "Station", "Usage"])
 
     def test_every_refusal_and_fault_has_its_sentence(self):

@@ -6,7 +6,7 @@ use Rattle.job_reader.specs.declared.job.Job.{Job}
 use Rattle.hull_report.specs.declared.line.Command.{Command}
 use Rattle.hull_report.specs.declared.line.Command.TheVariants as command
 use Rattle.hull_report.specs.declared.line.Line.{Line}
-use Rattle.hull_cli.specs.declared.status.Status.TheVariants.{Done}
+use Rattle.report_run.specs.declared.status.Status.TheVariants.{Done}
 use Rattle.hull_cli.specs.Report.{IsSectionReport, IsTablesReport}
 use Rattle.hull_cli.specs.Sections.{AreSectionsFrom}
 use Rattle.hull_cli.specs.Tables.{AreHydroLines, AreBonjeanLines}

@@ -1,45 +1,25 @@
--- What a run decides by the words and the files, and what has been written at its end.
-use Rattle.std.specs.Prelude.{ℕ, ◌≡◌, ◌≢◌, ◌≤◌, ◌<◌, ◌⊎◌, List, Option, Some, None, length, take}
-use Rattle.desk.specs.Causes.{Rose, AppendedIfTold}
-use Rattle.job_reader.specs.declared.fault.JobFault.TheVariants as job_fault
+-- What a run decides by the words and the files.
+use Rattle.std.specs.Prelude.{ℕ, ◌≡◌, ◌≤◌, ◌<◌, ◌⊎◌, List, Some, None, length}
 use Rattle.job_reader.specs.declared.job.Job.{Job}
-use Rattle.job_reader.specs.Job.{IsJobOfFile, IsFaultOf}
-use Rattle.offset_reader.specs.Offsets.{first_fault, hull_of}
+use Rattle.job_reader.specs.Job.{IsJobOfFile}
+use Rattle.offset_reader.specs.Offsets.{hull_of}
 use Rattle.hull_model.specs.declared.station.Station.{Station}
 use Rattle.hull_report.specs.Spelling.{lines_text}
 use Rattle.hull_report.specs.declared.line.Command.{Command}
 use Rattle.hull_report.specs.declared.line.Line.{Line}
-use Rattle.hull_cli.specs.declared.status.Status.{Status}
-use Rattle.hull_cli.specs.declared.status.Status.TheVariants.{Refused, ReadFault, WriteFault, NoMemory}
-use Rattle.hull_cli.specs.declared.stop.File.{File}
-use Rattle.hull_cli.specs.declared.stop.File.TheVariants as file
-use Rattle.hull_cli.specs.declared.stop.Refusal.{Refusal}
-use Rattle.hull_cli.specs.declared.stop.Refusal.TheVariants as refusal
-use Rattle.hull_cli.specs.Refusals.{refusal_text, unread_text}
+use Rattle.report_run.specs.declared.status.Status.{Status}
+use Rattle.report_run.specs.declared.status.Status.TheVariants.{Refused, ReadFault, WriteFault, NoMemory}
+use Rattle.report_run.specs.declared.stop.File.{File}
+use Rattle.report_run.specs.declared.stop.File.TheVariants as file
+use Rattle.report_run.specs.declared.stop.Refusal.{Refusal}
+use Rattle.report_run.specs.declared.stop.Refusal.TheVariants as refusal
+use Rattle.report_run.specs.Files.{BothRead, CanBeRead, JobCanBeRead, JobRead, Read}
+use Rattle.report_run.specs.Refusals.{refusal_text, unread_text}
+use Rattle.report_run.specs.Shelves.{Shelves, Unread}
+use Rattle.report_run.specs.Stops.{DueToJob, DueToOffsets}
 use Rattle.hull_cli.specs.Report.{IsSectionReport, IsTablesReport}
-use Rattle.hull_cli.specs.Shelves.{Shelves, most_bytes, Fetched, Unread, TooLong}
 use Rattle.hull_cli.specs.Verdicts.{status_of}
 use Rattle.hull_cli.specs.Words.{Form, section, tables, form_of}
-
--- the offset file of this name was read, and has no fault
-abbrev pub Read : Shelves → List ℕ → List ℕ → Type 0
-Read shelves offsets bytes = Fetched shelves offsets bytes × (first_fault bytes ≡ None)
-
--- the job file of this name was read, and this is its job
-abbrev pub JobRead : Shelves → List ℕ → Job → Type 0
-JobRead shelves name job = (bytes : List ℕ) × Fetched shelves name bytes × IsJobOfFile bytes job
-
--- this refusal is due to the offset file of this name
-abbrev pub DueToOffsets : Shelves → List ℕ → Refusal → Type 0
-DueToOffsets shelves offsets (refusal.Long file.Offsets) = TooLong shelves offsets
-DueToOffsets shelves offsets (refusal.Offsets fault) = (bytes : List ℕ) × Fetched shelves offsets bytes × (first_fault bytes ≡ Some fault)
-DueToOffsets shelves offsets _ = ⊥
-
--- this refusal is due to the job file of this name
-abbrev pub DueToJob : Shelves → List ℕ → Refusal → Type 0
-DueToJob shelves job (refusal.Long file.Job) = TooLong shelves job
-DueToJob shelves job (refusal.Job fault) = (bytes : List ℕ) × Fetched shelves job bytes × IsFaultOf bytes fault × (fault ≢ job_fault.Memory)
-DueToJob shelves job _ = ⊥
 
 -- this refusal is due to the station's number
 abbrev pub DueToStation : Shelves → List ℕ → ℕ → Refusal → Type 0
@@ -49,11 +29,6 @@ DueToStation shelves offsets station _ = ⊥
 -- this refusal is due to what the command finds in the job and the hull
 abbrev pub DueToCommand : Command → Job → List Station → Refusal → Type 0
 DueToCommand command job hull cause = ⊥
-
--- the files of these names were read: this is the job, and these are the bytes of the offset file
-pub record BothRead (shelves : Shelves) (name offsets : List ℕ) (job : Job) (bytes : List ℕ) : Type 0 where
-  pub job_read : JobRead shelves name job
-  pub read : Read shelves offsets bytes
 
 -- this refusal is due to what a command with these files asks for; the offset file counts only where the job was read,
 -- what the command finds in them only where both were
@@ -111,37 +86,6 @@ Decides shelves words ReadFault text = (file : File) × LeftUnread shelves words
 Decides shelves words WriteFault text = ⊥
 Decides shelves words NoMemory text = ⊥
 Decides shelves words status text = (lines : List Line) × Reports shelves words lines × (status ≡ status_of lines) × (text ≡ lines_text lines)
-
--- the text that is to be written was written whole
-abbrev pub Wrote : Shelves → List (List ℕ) → Status → Option (List ℕ) → Option (List ℕ) → Type 0
-Wrote shelves words status before after = (text : List ℕ) × Decides shelves words status text × AppendedIfTold before after text
-
--- a proper prefix of it was written
-abbrev pub WroteSome : Shelves → List (List ℕ) → Option (List ℕ) → Option (List ℕ) → Type 0
-WroteSome shelves words before after = (status : Status) × (text : List ℕ) × (n : ℕ) × Decides shelves words status text × (n < length text) × AppendedIfTold before after (take n text)
-
--- what each status says of a kind of sink, by its count of faults and the bytes that it tells, before and after
-abbrev pub Answers : {K : Type 0} → (K → ℕ) → (K → Option (List ℕ)) → Shelves → List (List ℕ) → Status → K → K → Type 0
-Answers faults taken shelves words WriteFault before after = Rose (faults before) (faults after) × WroteSome shelves words (taken before) (taken after)
-Answers faults taken shelves words NoMemory before after = after ≡ before
-Answers faults taken shelves words status before after = Wrote shelves words status (taken before) (taken after)
-
--- a file is held and short enough, and no fetch of it failed
-pub record CanBeFetched (shelves : Shelves) (name bytes : List ℕ) : Type 0 where
-  pub held : shelves.held name ≡ Some bytes
-  pub few : length bytes ≤ most_bytes
-  pub fetched : ¬ (Unread shelves name)
-
--- the offset file of this name can be read, and has no fault
-pub record CanBeRead (shelves : Shelves) (offsets bytes : List ℕ) : Type 0 where
-  pub file : CanBeFetched shelves offsets bytes
-  pub accepted : first_fault bytes ≡ None
-
--- the job file of this name can be read, and has no fault
-pub record JobCanBeRead (shelves : Shelves) (name bytes : List ℕ) : Type 0 where
-  pub file : CanBeFetched shelves name bytes
-  pub job : Job
-  pub accepted : IsJobOfFile bytes job
 
 -- the files of these names can be read, and the command refuses nothing that it finds in them
 pub record TablesCanBeGiven (shelves : Shelves) (command : Command) (name offsets : List ℕ) : Type 0 where

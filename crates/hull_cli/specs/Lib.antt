@@ -1,11 +1,7 @@
 pub mod Answers
-pub mod Codes
-pub mod Faults
-pub mod Refusals
 pub mod Report
 pub mod Requests
 pub mod Sections
-pub mod Shelves
 pub mod Stops
 pub mod Tables
 pub mod Verdicts

@@ -3,37 +3,14 @@ use Rattle.std.specs.Prelude.{ℕ, ◌≡◌, ◌≤◌, ⊤, List, length}
 use Rattle.hull_model.specs.declared.station.Station as model
 use Rattle.job_reader.specs.declared.job.Job.{Job}
 use Rattle.hull_report.specs.declared.line.Command.{Command}
-use Rattle.hull_cli.specs.declared.stop.File.{File}
-use Rattle.hull_cli.specs.declared.stop.File.TheVariants as file
-use Rattle.hull_cli.specs.declared.stop.Refusal.TheVariants.{Long, Station}
-use Rattle.hull_cli.specs.declared.stop.Stop.{Stop}
-use Rattle.hull_cli.specs.declared.stop.Stop.TheVariants as stop
-use Rattle.hull_cli.specs.Answers.{Due, DueTo, DueToCommand, DueToJob, DueToOffsets, LeftUnread, UnreadBy}
-use Rattle.hull_cli.specs.Shelves.{Shelves, TooLong, Unread}
+use Rattle.report_run.specs.declared.stop.Refusal.TheVariants.{Station}
+use Rattle.report_run.specs.declared.stop.Stop.{Stop}
+use Rattle.report_run.specs.declared.stop.Stop.TheVariants as stop
+use Rattle.report_run.specs.Shelves.{Shelves}
+use Rattle.hull_cli.specs.Answers.{Due, DueTo, DueToCommand, LeftUnread, UnreadBy}
 use Rattle.hull_cli.specs.Words.{Form}
 
 -- Want of memory may come at any time.
-
--- why the file of this name could not be fetched
-abbrev pub StopsFetching : Shelves → List ℕ → File → Stop → Type 0
-StopsFetching shelves name kind (stop.Refused (Long named)) = (named ≡ kind) × TooLong shelves name
-StopsFetching shelves name kind (stop.Refused _) = ⊥
-StopsFetching shelves name kind (stop.Unread named) = (named ≡ kind) × Unread shelves name
-StopsFetching shelves name kind stop.NoMemory = ⊤
-
--- why no hull could be read under this name
-abbrev pub StopsReading : Shelves → List ℕ → Stop → Type 0
-StopsReading shelves offsets (stop.Refused cause) = DueToOffsets shelves offsets cause
-StopsReading shelves offsets (stop.Unread file.Offsets) = Unread shelves offsets
-StopsReading shelves offsets (stop.Unread file.Job) = ⊥
-StopsReading shelves offsets stop.NoMemory = ⊤
-
--- why no job could be read under this name
-abbrev pub StopsReadingJob : Shelves → List ℕ → Stop → Type 0
-StopsReadingJob shelves job (stop.Refused cause) = DueToJob shelves job cause
-StopsReadingJob shelves job (stop.Unread file.Job) = Unread shelves job
-StopsReadingJob shelves job (stop.Unread file.Offsets) = ⊥
-StopsReadingJob shelves job stop.NoMemory = ⊤
 
 -- why there is no report on what the words ask for
 abbrev pub StopsOn : Shelves → Form → Stop → Type 0

@@ -4,8 +4,8 @@ use Rattle.hull_report.specs.declared.line.Call.{Call}
 use Rattle.hull_report.specs.declared.line.Call.TheVariants as call
 use Rattle.hull_report.specs.declared.line.Line.{Line}
 use Rattle.hull_report.specs.declared.line.Line.TheVariants as line
-use Rattle.hull_cli.specs.declared.status.Status.{Status}
-use Rattle.hull_cli.specs.declared.status.Status.TheVariants.{Done, Fails, Undecided}
+use Rattle.report_run.specs.declared.status.Status.{Status}
+use Rattle.report_run.specs.declared.status.Status.TheVariants.{Done, Fails, Undecided}
 
 -- the status that a verdict comes with
 abbrev pub status_by : Call → Status

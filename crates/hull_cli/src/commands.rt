@@ -1,24 +1,23 @@
 // The top call: from words to the bytes of a report.
-ghost use Rattle.std.specs.Prelude.{◌≡◌, ◌≢◌, ◌≤◌, ◌<◌, ◌⊎◌, true, false, List, ℕ, Some, None, IfOk, IfErr, map, length, take, string_bytes};
-ghost use Rattle.desk.specs.Causes.{Rose, NeverFails, NeverFailsToTake, AppendedIfTold};
+ghost use Rattle.std.specs.Prelude.{◌≡◌, ◌≢◌, ◌≤◌, ◌⊎◌, List, ℕ, Some, None, IfOk, IfErr, map, string_bytes};
+ghost use Rattle.desk.specs.Causes.{Rose, NeverFails, NeverFailsToTake};
 ghost use Rattle.hull_report.specs.Spelling.{AreLines};
-ghost use Rattle.hull_cli.specs.Answers.{Answers, CanBeGiven, Decides, Reports, ReportsOn, ReportsWith};
+ghost use Rattle.report_run.specs.Answers.{Answers};
+ghost use Rattle.report_run.specs.Shelves.{between};
+ghost use Rattle.hull_cli.specs.Answers.{CanBeGiven, Decides, Reports, ReportsOn, ReportsWith};
 ghost use Rattle.hull_cli.specs.Requests.{form_seen};
-ghost use Rattle.hull_cli.specs.Shelves.{between};
 ghost use Rattle.hull_cli.specs.Stops.{Stops, StopsOn};
 ghost use Rattle.hull_cli.specs.Words as form;
 ghost use Rattle.hull_cli.specs.Words.{Form, form_of, HasTables, IsServed};
 
-use crate::reading::{read_hull, read_job_file};
 use crate::section::section_report;
-use crate::status::Status;
-use crate::stop::{Refusal, Stop};
 use crate::tables::tables_report;
 use crate::verdict::report_status;
 use crate::words::{Request, request_of};
 use desk::{Shelf, Sink};
 use exact_fraction::Memory;
 use hull_report::{Command, Line, text_of};
+use report_run::{Refusal, Status, Stop, put_all, read_hull, read_job_file};
 use std::alloc::Global;
 
 /// Does what the words say: reads from the shelf, and writes one report, `refused` line or `fault` line to
@@ -27,7 +26,7 @@ use std::alloc::Global;
 /// `words` are the command's words without the program's name. The whole text is made before the first
 /// byte is written.
 pub fn run<S: Shelf, K: Sink>(alloc: Global, words: &[String], shelf: &mut S, out: &mut K) -> Status
-    ensures answers { Answers K.faults K.taken (between S.held S.faults S.taken shelf.old shelf.new) (map string_bytes words.now) result out.old out.new }
+    ensures answers { Answers K.faults K.taken (Decides (between S.held S.faults S.taken shelf.old shelf.new) (map string_bytes words.now)) result out.old out.new }
     ensures same { (n : List ℕ) → S.held shelf.new n ≡ S.held shelf.old n }
     ensures no_fetch { form_of (map string_bytes words.now) ≡ None → shelf.new ≡ shelf.old }
     ensures complete { (form : Form) → form_of (map string_bytes words.now) ≡ Some form
@@ -150,21 +149,4 @@ fn tables_on<S: Shelf>(
     let job = read_job_file(alloc, shelf, job)?;
     let hull = read_hull(alloc, shelf, offsets)?;
     tables_report(alloc, command, &hull, &job)
-}
-
-// Puts what isn't taken yet until all is: false where a put failed.
-fn put_all<K: Sink>(out: &mut K, text: &[u8]) -> bool
-    ensures all { result ≡ true → AppendedIfTold (K.taken out.old) (K.taken out.new) text.now }
-    ensures cut { result ≡ false → (n : ℕ) × (n < length text.now) × AppendedIfTold (K.taken out.old) (K.taken out.new) (take n text.now) }
-    ensures failed { result ≡ false → Rose (K.faults out.old) (K.faults out.new) }
-    ensures later { K.faults out.old ≤ K.faults out.new }
-{
-    let mut at = 0;
-    while at < text.len() {
-        match out.put(&text[at..]) {
-            Ok(count) => at += count,
-            Err(_) => return false,
-        }
-    }
-    true
 }

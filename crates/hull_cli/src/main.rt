@@ -2,21 +2,16 @@
 #![tactic(auto)]
 
 mod commands;
-mod faults;
 mod hull_line;
 mod hydro;
-mod reading;
-mod refused;
 mod section;
-mod status;
-mod stop;
 mod tables;
 mod verdict;
 mod words;
 
 pub use commands::run;
 use desk::{FileShelf, OutSink};
-pub use status::Status;
+pub use report_run::Status;
 use std::env;
 use std::io::ErrorKind;
 use std::process::ExitCode;

@@ -7,11 +7,11 @@ ghost use Rattle.hull_cli.specs.Sections.{IsSectionLine, AreSectionLines};
 ghost use Rattle.hull_cli.specs.Stops.{StopsSection};
 
 use crate::hull_line::hull_line;
-use crate::stop::{Refusal, Stop};
 use bonjean_curves::section;
 use exact_fraction::Memory;
 use hull_model::{Hull, Station};
 use hull_report::{Command, Line};
+use report_run::{Refusal, Stop};
 use std::alloc::Global;
 
 /// The report on one station.

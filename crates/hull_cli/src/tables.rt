@@ -14,12 +14,12 @@ ghost use Rattle.hull_cli.specs.Words.{HasTables};
 use crate::hull_line::hull_line;
 use crate::hydro::hydro_lines;
 use crate::section::section_lines;
-use crate::stop::Stop;
 use exact_fraction::Memory;
 use hull_model::Hull;
 use hull_polyhedron::{Faces, faces_of, six_volume};
 use hull_report::{Command, Line};
 use job_reader::Job;
+use report_run::Stop;
 use std::alloc::Global;
 
 /// The report of a command's tables.

@@ -2,8 +2,8 @@
 ghost use Rattle.std.specs.Prelude.{◌≡◌};
 ghost use Rattle.hull_cli.specs.Verdicts.{MayReport, status_by, status_of};
 
-use crate::status::Status;
 use hull_report::{Call, Line};
+use report_run::Status;
 
 /// The status of a report: that of its verdict, and `Done` where it has none.
 pub(crate) fn report_status(lines: &[Line]) -> Status

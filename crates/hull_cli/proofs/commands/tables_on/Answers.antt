@@ -1,6 +1,7 @@
 use Rattle.std.proofs.lemmas.Result.{err_from_is_err_and}
 use Rattle.hull_cli.proofs.Listed.{of_each_ok, of_each_err}
-use Rattle.hull_cli.proofs.Parts.{is_first, is_second, job_read, both_read, hull_stops, tables_stop}
+use Rattle.report_run.proofs.Calls.{is_first, is_second, job_read, both_read}
+use Rattle.hull_cli.proofs.Parts.{hull_stops, tables_stop}
 use Rattle.hull_cli.proofs.commands.tables_on.Goals as goal
 
 pub returns-in_err-hull-clause-stops : goal.returns-in_err-hull-clause-stops

@@ -1,10 +1,10 @@
 -- The lines that are written in place of a report.
 use Rattle.std.specs.Prelude.{ℕ, List, ◌++◌, codes}
-use Rattle.hull_cli.specs.declared.stop.File.{File}
-use Rattle.hull_cli.specs.declared.stop.File.TheVariants as file
-use Rattle.hull_cli.specs.declared.stop.Refusal.{Refusal}
-use Rattle.hull_cli.specs.declared.stop.Refusal.TheVariants.{Usage, Long, Job, Offsets, Station}
-use Rattle.hull_cli.specs.Faults.{word_text, place_text, job_fault_text, offset_fault_text}
+use Rattle.report_run.specs.declared.stop.File.{File}
+use Rattle.report_run.specs.declared.stop.File.TheVariants as file
+use Rattle.report_run.specs.declared.stop.Refusal.{Refusal}
+use Rattle.report_run.specs.declared.stop.Refusal.TheVariants.{Usage, Long, Job, Offsets, Station}
+use Rattle.report_run.specs.Faults.{word_text, place_text, job_fault_text, offset_fault_text}
 
 abbrev pub file_word : File → List ℕ
 file_word file.Job = codes "job"

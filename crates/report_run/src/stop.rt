@@ -10,23 +10,27 @@ use std::alloc::{AllocError, Global};
 
 /// The files that a run reads.
 #[derive(Clone, Copy, Debug)]
-pub(crate) enum File {
+pub enum File {
+    /// The job file.
     Job,
+    /// The offset file.
     Offsets,
 }
 
 /// Why a run writes no report.
 #[derive(Clone, Copy, Debug)]
-pub(crate) enum Stop {
+pub enum Stop {
+    /// What was asked for is refused.
     Refused(Refusal),
     /// The file's fetch failed.
     Unread(File),
+    /// Memory was refused.
     NoMemory,
 }
 
 /// A refusal, by its cause.
 #[derive(Clone, Copy, Debug)]
-pub(crate) enum Refusal {
+pub enum Refusal {
     /// The words are in no form.
     Usage,
     /// The file has too many bytes.
@@ -40,7 +44,7 @@ pub(crate) enum Refusal {
 }
 
 impl From<Memory> for Stop {
-    ghost use Rattle.hull_cli.specs.declared.stop.Stop.TheVariants.{NoMemory};
+    ghost use Rattle.report_run.specs.declared.stop.Stop.TheVariants.{NoMemory};
 
     ghost from_gives = { λ _ stop. stop ≡ NoMemory };
 
@@ -50,7 +54,7 @@ impl From<Memory> for Stop {
 }
 
 impl From<AllocError> for Stop {
-    ghost use Rattle.hull_cli.specs.declared.stop.Stop.TheVariants.{NoMemory};
+    ghost use Rattle.report_run.specs.declared.stop.Stop.TheVariants.{NoMemory};
 
     ghost from_gives = { λ _ stop. stop ≡ NoMemory };
 
@@ -60,7 +64,7 @@ impl From<AllocError> for Stop {
 }
 
 impl File {
-    ghost use Rattle.hull_cli.specs.Refusals.{file_word, unread_text};
+    ghost use Rattle.report_run.specs.Refusals.{file_word, unread_text};
 
     fn word(&self) -> &'static str
         ensures { result.now ≡ file_word self.now }
@@ -71,8 +75,9 @@ impl File {
         }
     }
 
-    /// The line that is written where the file could not be read.
-    pub(crate) fn unread(&self, alloc: Global) -> Result<Vec<u8>, Memory>
+    /// The line that is written where the file could not be read: `fault read` and the file's word. Fails for want of
+    /// memory.
+    pub fn unread(&self, alloc: Global) -> Result<Vec<u8>, Memory>
         ensures { IfOk result (λ text. text.items ≡ unread_text self.now) }
     {
         let mut text = String::from_str(alloc, "fault read")?;
@@ -83,10 +88,10 @@ impl File {
 }
 
 impl Refusal {
-    ghost use Rattle.hull_cli.specs.Refusals.{cause_text, refusal_text};
+    ghost use Rattle.report_run.specs.Refusals.{cause_text, refusal_text};
 
-    /// The line that is written.
-    pub(crate) fn text(&self, alloc: Global) -> Result<Vec<u8>, Memory>
+    /// The line that is written: `refused` and the cause, with its words and numbers. Fails for want of memory.
+    pub fn text(&self, alloc: Global) -> Result<Vec<u8>, Memory>
         ensures { IfOk result (λ text. text.items ≡ refusal_text self.now) }
     {
         let mut text = String::from_str(alloc, "refused")?;

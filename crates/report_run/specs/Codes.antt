@@ -1,7 +1,7 @@
 -- The exit codes of the statuses.
 use Rattle.std.specs.Prelude.{ℕ}
-use Rattle.hull_cli.specs.declared.status.Status.{Status}
-use Rattle.hull_cli.specs.declared.status.Status.TheVariants.{Done, Fails, Undecided, Refused, ReadFault, WriteFault, NoMemory}
+use Rattle.report_run.specs.declared.status.Status.{Status}
+use Rattle.report_run.specs.declared.status.Status.TheVariants.{Done, Fails, Undecided, Refused, ReadFault, WriteFault, NoMemory}
 
 abbrev pub code_of : Status → ℕ
 code_of Done = 0

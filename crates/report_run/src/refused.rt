@@ -1,6 +1,6 @@
 // Words and numbers of a line that refuses.
 ghost use Rattle.std.specs.Prelude.{◌≡◌, ◌++◌, OnOk, string_bytes};
-ghost use Rattle.hull_cli.specs.Faults.{word_text, place_text, field_text};
+ghost use Rattle.report_run.specs.Faults.{word_text, place_text, field_text};
 
 use exact_fraction::Memory;
 use itoa::{Buffer, Integer};

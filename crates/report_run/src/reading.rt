@@ -2,9 +2,9 @@
 ghost use Rattle.std.specs.Prelude.{◌≡◌, List, ℕ, IfOk, IfErr};
 ghost use Rattle.desk.specs.Causes.{NoneFell};
 ghost use Rattle.offset_reader.specs.Offsets as offsets_file;
-ghost use Rattle.hull_cli.specs.Answers.{JobRead, Read};
-ghost use Rattle.hull_cli.specs.Shelves.{Fetched, between};
-ghost use Rattle.hull_cli.specs.Stops.{StopsFetching, StopsReading, StopsReadingJob};
+ghost use Rattle.report_run.specs.Files.{JobRead, Read};
+ghost use Rattle.report_run.specs.Shelves.{Fetched, between};
+ghost use Rattle.report_run.specs.Stops.{StopsFetching, StopsReading, StopsReadingJob};
 
 use crate::stop::{File, Refusal, Stop};
 use desk::{Shelf, ShelfFault};
@@ -16,8 +16,9 @@ use std::alloc::Global;
 /// The most bytes of an input file.
 const MOST_BYTES: usize = 1_048_576;
 
-/// The job of a job file.
-pub(crate) fn read_job_file<S: Shelf>(alloc: Global, shelf: &mut S, name: &str) -> Result<Job, Stop>
+/// The job of the job file of this name. Stops where the file has more than 1048576 bytes, has a fault or can't be read,
+/// and for want of memory; what is held stays as it is.
+pub fn read_job_file<S: Shelf>(alloc: Global, shelf: &mut S, name: &str) -> Result<Job, Stop>
     ensures read { IfOk result (JobRead (between S.held S.faults S.taken shelf.old shelf.new) name.now) }
     ensures stop { IfErr result (StopsReadingJob (between S.held S.faults S.taken shelf.old shelf.new) name.now) }
     ensures same { (n : List ℕ) → S.held shelf.new n ≡ S.held shelf.old n }
@@ -34,8 +35,9 @@ pub(crate) fn read_job_file<S: Shelf>(alloc: Global, shelf: &mut S, name: &str) 
     }
 }
 
-/// The hull of an offset file.
-pub(crate) fn read_hull<S: Shelf>(alloc: Global, shelf: &mut S, offsets: &str) -> Result<Hull, Stop>
+/// The hull of the offset file of this name. Stops where the file has more than 1048576 bytes, has a fault or can't be
+/// read, and for want of memory; what is held stays as it is.
+pub fn read_hull<S: Shelf>(alloc: Global, shelf: &mut S, offsets: &str) -> Result<Hull, Stop>
     ensures read { IfOk result (λ hull. (bytes : List ℕ)
         × Read (between S.held S.faults S.taken shelf.old shelf.new) offsets.now bytes
         × (hull ≡ offsets_file.hull_of bytes)) }

@@ -2,7 +2,7 @@ use Rattle.std.proofs.Common.{arith}
 use Rattle.std.proofs.Math.Seq.{take-add}
 use Rattle.std.proofs.lemmas.List.{take_rest}
 use Rattle.desk.proofs.Appended.{appended-twice}
-use Rattle.hull_cli.proofs.commands.put_all.Goals as goal
+use Rattle.report_run.proofs.writing.put_all.Goals as goal
 
 pub loop-at-preserved : goal.loop-at-preserved
 loop-at-preserved g c =

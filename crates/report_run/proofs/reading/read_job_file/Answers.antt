@@ -1,5 +1,5 @@
 use Rattle.std.proofs.Common.{inl, inr}
-use Rattle.hull_cli.proofs.reading.read_job_file.Goals as goal
+use Rattle.report_run.proofs.reading.read_job_file.Goals as goal
 
 pub returns : goal.returns
 returns g c = record {

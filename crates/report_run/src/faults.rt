@@ -1,6 +1,6 @@
 // What is said of a fault of a file.
 ghost use Rattle.std.specs.Prelude.{◌≡◌, ◌++◌, OnOk, string_bytes};
-ghost use Rattle.hull_cli.specs.Faults.{word_text, entry_text, key_text, job_fault_text, offset_fault_text};
+ghost use Rattle.report_run.specs.Faults.{word_text, entry_text, key_text, job_fault_text, offset_fault_text};
 
 use crate::refused::{push_field, push_number, push_place, push_word};
 use exact_fraction::Memory;

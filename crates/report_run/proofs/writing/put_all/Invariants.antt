@@ -1,6 +1,6 @@
 use Rattle.std.proofs.Common.{◌≤◌, ◌-◌, length, take}
 use Rattle.desk.specs.Causes.{AppendedIfTold}
-use Rattle.hull_cli.proofs.commands.put_all.Given as goal
+use Rattle.report_run.proofs.writing.put_all.Given as goal
 
 abbrev pub invariant-loop-at : goal.invariant-loop-at
 invariant-loop-at g l = record {

@@ -21,7 +21,7 @@ pub enum Status {
 }
 
 impl Status {
-    ghost use Rattle.hull_cli.specs.Codes.{code_of};
+    ghost use Rattle.report_run.specs.Codes.{code_of};
 
     /// The exit code of the program: 0 to 6, in the order of the variants.
     pub fn code(&self) -> u8
