@@ -1,4 +1,5 @@
-//! Microseconds of a table of 91 degrees: draft brackets alone, and KN over them, for two hulls.
+//! Microseconds of a table of 91 degrees: draft brackets alone, KN over them, and levers to both sides, for two hulls; and how
+//! wide the levers are.
 #![tactic(auto)]
 
 ghost use Rattle.std.specs.Prelude.{◌≤◌, IfSome};
@@ -7,9 +8,13 @@ ghost use Rattle.draft_bracket.specs.DraftBracket.{IsNeed};
 use angle_bounds::{Degree, bracket_of};
 use cross_curves::kn_near;
 use draft_bracket::{Guess, float_near};
+use dynamic_lever::{ArmTable, arms};
 use exact_fraction::Ratio;
-use hull_model::{Hull, Point, Points, Station};
+use hull_model::{Hull, Point, Points, Station, Water};
 use hull_polyhedron::{Faces, faces_of};
+use job_reader::Item;
+use loading_sheet::{Loading, load};
+use outward_interval::Encloses;
 use std::alloc::Global;
 use std::io;
 use std::io::Print;
@@ -145,6 +150,41 @@ fn cells(faces: &Faces, mass: u32) -> Option<i128>
     Some(sum)
 }
 
+const WATER: Water = Water {
+    density: 1025,
+    length_bp: 100000,
+};
+
+/// A mass amidships, 6 m above the base.
+fn loaded(mass: u32) -> Option<Loading>
+    requires { 1 ≤ mass }
+{
+    let items = [Item {
+        mass: u64::from(mass),
+        x: 50000,
+        y: 0,
+        z: 6000,
+        free_surface: 0,
+    }];
+    load(&items).ok()
+}
+
+fn table(faces: &Faces, mass: u32) -> Option<ArmTable>
+    requires { 1 ≤ mass }
+{
+    arms(faces, &loaded(mass)?, &WATER).ok()
+}
+
+/// The widest lever and the widest separation, in units of 2^-20 mm.
+fn widest(table: Option<ArmTable>) -> Option<(i128, i128)> {
+    let (mut gz, mut sep) = (0, 0);
+    for row in &table?.rows {
+        gz = gz.max(row.gz[0].units());
+        sep = sep.max(row.sep[0].units());
+    }
+    Some((gz, sep))
+}
+
 fn row<R: Print + Clock>(rt: &R, name: &str, faces: &Faces, mass: u32) -> io::Result<()>
     requires { 1 ≤ mass }
 {
@@ -157,6 +197,10 @@ fn row<R: Print + Clock>(rt: &R, name: &str, faces: &Faces, mass: u32) -> io::Re
         let sum = cells(faces, mass);
         let time = start.elapsed(rt)?.as_micros();
         println!(rt; "{name}, KN: {time} us ({sum:?})")?;
+        let start = Instant::now(rt)?;
+        let widths = widest(table(faces, mass));
+        let time = start.elapsed(rt)?.as_micros();
+        println!(rt; "{name}, levers: {time} us (widest {widths:?})")?;
     }
     Ok(())
 }

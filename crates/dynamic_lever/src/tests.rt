@@ -1,4 +1,6 @@
 // A barge of 100 m by 20 m by 10 m that floats at 5 m with 10250 t, half a metre off the centreplane.
+mod cargo;
+
 use crate::{arms, upright};
 use draft_bracket::TooHeavy;
 use exact_fraction::Ratio;
@@ -21,6 +23,10 @@ fn barge(alloc: Global) -> Result<Option<Faces>, Fail> {
             points: Points::new(points),
         })?;
     }
+    faces_with(alloc, stations)
+}
+
+fn faces_with(alloc: Global, stations: Vec<Station>) -> Result<Option<Faces>, Fail> {
     match Hull::of(stations) {
         Some(hull) => Ok(Some(faces_of(alloc, &hull)?)),
         None => Ok(None),
