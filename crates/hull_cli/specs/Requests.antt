@@ -1,4 +1,4 @@
--- The code's requests, as forms of words.
+-- A model of the private type `Request`: its forms of words.
 use Rattle.hull_cli.specs.declared.words.Request.{Request}
 use Rattle.hull_cli.specs.declared.words.Request.TheVariants as request
 use Rattle.hull_cli.specs.Words.{Form, section, tables}

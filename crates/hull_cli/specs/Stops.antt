@@ -1,4 +1,4 @@
--- Why there is no report.
+-- A model of the private functions that may end in a `Stop`: why there is no report.
 use Rattle.std.specs.Prelude.{ℕ, ◌≡◌, ◌≤◌, ⊤, List, length}
 use Rattle.hull_model.specs.declared.station.Station as model
 use Rattle.job_reader.specs.declared.job.Job.{Job}

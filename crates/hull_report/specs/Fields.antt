@@ -1,4 +1,5 @@
--- How the lines of a report are read from their words. More texts are taken than the grammar has.
+-- A model of the private functions of `fields` and `outcomes`: how the lines of a report are read from their words. More texts
+-- are taken than the grammar has.
 use Rattle.std.specs.Prelude.{ℕ, Bool, true, false, List, [], ◌∷◌, Option, Some, None, if◌then◌else◌, codes}
 use Rattle.std.specs.Str.{bytes_eq}
 use Rattle.outward_interval.specs.declared.figure.Figure.{Figure}

@@ -1,4 +1,5 @@
--- How words are read. More texts are taken here than the grammar has: a line counts only where its text is what was read.
+-- A model of the private functions of `word` and `words`: how words are read. More texts are taken here than the grammar has:
+-- a line counts only where its text is what was read.
 use Rattle.std.specs.Prelude.{T, ◌≡◌, ℕ, ◌+◌, ◌-◌, ◌*◌, ◌^◌, ℤ, pos, neg_ℤ, Bool, true, false, List, [], ◌∷◌, Option, Some, None, option_map, option_and_then, nat_lt, nat_le, ◌==◌, if◌then◌else◌, ◌&&◌, codes}
 use Rattle.std.specs.Option.{unwrap_or}
 use Rattle.std.specs.Str.{bytes_eq}

@@ -1,4 +1,4 @@
--- What the keys of a document say, before their entries are held against each other.
+-- A model of the private type `Parts`: what the keys of a document say, before their entries are held against each other.
 use Rattle.std.specs.Prelude.{◌≡◌, ◌≤◌, true, length, map, Option}
 use Rattle.toml.specs.Data.{Members}
 use Rattle.job_reader.specs.declared.fault.JobFault.{JobFault}

@@ -81,6 +81,16 @@ fn a_text_is_put_until_all_is_taken_or_a_put_fails(rt: HostRuntime) -> Result<()
     Ok(())
 }
 
+// The third put fails, so that two puts have taken three bytes each.
+#[test]
+fn each_put_is_handed_all_that_is_not_taken(rt: HostRuntime) -> Result<(), Fail> {
+    let alloc = rt.alloc();
+    let mut out = MemSink::new(alloc, 16, 3, vec![in alloc; 3]?)?;
+    assert!(rt; !put_all(&mut out, b"refused\n"));
+    assert_eq!(rt; out.taken(), b"refuse".as_slice());
+    Ok(())
+}
+
 #[test]
 fn each_status_has_its_code(rt: HostRuntime) -> Result<(), Fail> {
     for (status, code) in [
