@@ -46,12 +46,16 @@ fn holds(span: Span<20>, num: i128, den: i128) -> Result<bool, Fail> {
 
 // A mass in kg at a height of 7 m, half a metre to starboard.
 fn loaded(mass: u64) -> Result<Loading, Fail> {
-    if 1 <= mass && mass <= 1 << 36 {
+    loaded_at(mass, 7000)
+}
+
+fn loaded_at(mass: u64, z: i64) -> Result<Loading, Fail> {
+    if 1 <= mass && mass <= 1 << 36 && 0 <= z && z <= 65535 {
         let items = [Item {
             mass,
             x: 50000,
             y: 500,
-            z: 7000,
+            z,
             free_surface: 0,
         }];
         Ok(load(&items).ok().ok_or("no loading")?)
@@ -106,6 +110,17 @@ fn heights_of_a_barge_upright(rt: HostRuntime) -> Result<(), Fail> {
     assert!(rt; holds(row.kb, 2500, 1)?);
     assert!(rt; holds(row.bm, 20000, 3)?);
     assert!(rt; holds(row.gm, 6500, 3)?);
+    Ok(())
+}
+
+// The centre at 9.1 m: GM is 2500 + 20000/3 - 9100 mm.
+#[test]
+fn a_high_centre_of_a_barge_upright(rt: HostRuntime) -> Result<(), Fail> {
+    let faces = barge(rt.alloc())?.expect(&rt, "a hull");
+    let row = upright(&faces, &loaded_at(10_250_000, 9100)?, &WATER)
+        .ok()
+        .expect(&rt, "a row");
+    assert!(rt; holds(row.gm, 200, 3)?);
     Ok(())
 }
 

@@ -67,6 +67,12 @@ fn masses_at_their_limits(rt: HostRuntime) {
     assert!(rt; load(&[item(1)]).is_ok());
     assert!(rt; load(&[item(1 << 36), item(0)]).is_ok());
     assert_eq!(rt;
+        load(&[item(1 << 36), item(1 << 36)]),
+        Err(LoadFault::MassRange {
+            sum: 137_438_953_472
+        })
+    );
+    assert_eq!(rt;
         load(&[item(1 << 36), item(1)]),
         Err(LoadFault::MassRange {
             sum: 68_719_476_737
