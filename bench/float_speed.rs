@@ -13,7 +13,7 @@ use exact_fraction::Ratio;
 use hull_model::{Hull, Point, Points, Station, Water};
 use hull_polyhedron::{Faces, faces_of};
 use job_reader::Item;
-use loading_sheet::{Loading, load};
+use loading_sheet::load;
 use outward_interval::Encloses;
 use std::alloc::Global;
 use std::io;
@@ -155,24 +155,26 @@ const WATER: Water = Water {
     length_bp: 100000,
 };
 
-/// A mass amidships, 6 m above the base.
-fn loaded(mass: u32) -> Option<Loading>
-    requires { 1 ≤ mass }
-{
-    let items = [Item {
-        mass: u64::from(mass),
-        x: 50000,
-        y: 0,
-        z: 6000,
-        free_surface: 0,
-    }];
-    load(&items).ok()
-}
+/// One item with the mass and the moment in height of all the cargo ship's items with their free surfaces.
+const CARGO_ITEM: Item = Item {
+    mass: 8380000,
+    x: 49542,
+    y: 0,
+    z: 5958,
+    free_surface: 1960,
+};
 
-fn table(faces: &Faces, mass: u32) -> Option<ArmTable>
-    requires { 1 ≤ mass }
-{
-    arms(faces, &loaded(mass)?, &WATER).ok()
+const FORMULA_ITEM: Item = Item {
+    mass: 20000000,
+    x: 80000,
+    y: 0,
+    z: 6000,
+    free_surface: 0,
+};
+
+fn table(faces: &Faces, item: Item) -> Option<ArmTable> {
+    let loading = load(&[item]).ok()?;
+    arms(faces, &loading, &WATER).ok()
 }
 
 /// The widest lever and the widest separation, in units of 2^-20 mm.
@@ -185,7 +187,13 @@ fn widest(table: Option<ArmTable>) -> Option<(i128, i128)> {
     Some((gz, sep))
 }
 
-fn row<R: Print + Clock>(rt: &R, name: &str, faces: &Faces, mass: u32) -> io::Result<()>
+fn row<R: Print + Clock>(
+    rt: &R,
+    name: &str,
+    faces: &Faces,
+    mass: u32,
+    item: Item,
+) -> io::Result<()>
     requires { 1 ≤ mass }
 {
     for _turn in 0..3u32 {
@@ -198,7 +206,7 @@ fn row<R: Print + Clock>(rt: &R, name: &str, faces: &Faces, mass: u32) -> io::Re
         let time = start.elapsed(rt)?.as_micros();
         println!(rt; "{name}, KN: {time} us ({sum:?})")?;
         let start = Instant::now(rt)?;
-        let widths = widest(table(faces, mass));
+        let widths = widest(table(faces, item));
         let time = start.elapsed(rt)?.as_micros();
         println!(rt; "{name}, levers: {time} us (widest {widths:?})")?;
     }
@@ -212,11 +220,11 @@ fn faces_from(alloc: Global, hull: Option<Hull>) -> Option<Faces> {
 fn main(rt: HostRuntime) -> io::Result<()> {
     let alloc = rt.alloc();
     match faces_from(alloc, hull_of(alloc, CARGO)) {
-        Some(faces) => row(&rt, "cargo ship", &faces, 8380000)?,
+        Some(faces) => row(&rt, "cargo ship", &faces, 8380000, CARGO_ITEM)?,
         None => println!(rt; "no cargo ship")?,
     }
     match faces_from(alloc, formula_hull(alloc)) {
-        Some(faces) => row(&rt, "64 stations by 32", &faces, 20000000)?,
+        Some(faces) => row(&rt, "64 stations by 32", &faces, 20000000, FORMULA_ITEM)?,
         None => println!(rt; "no hull of 64 stations")?,
     }
     Ok(())

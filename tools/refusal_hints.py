@@ -13,8 +13,13 @@ except ImportError:  # before Python 3.11
 
 COLUMNS = ["first field (x)", "second field (half-breadth)", "third field (height)"]
 LIMITS = [524287, 65535, 65535]
-LATER = ["cross", "stability", "damage", "floodable", "all", "make"]
-FORMS = {"hydro": ["JOB", "OFFSETS"], "bonjean": ["JOB", "OFFSETS"], "section": ["OFFSETS", "STATION", "DRAFT"]}
+LATER = ["stability", "damage", "floodable", "all", "make"]
+FORMS = {
+    "hydro": ["JOB", "OFFSETS"],
+    "bonjean": ["JOB", "OFFSETS"],
+    "cross": ["JOB", "OFFSETS"],
+    "section": ["OFFSETS", "STATION", "DRAFT"],
+}
 KEYS = {
     "top": "version density length_bp margin drafts displacements item opening compartment damage floodable",
     "item": "name mass x z free_surface",
@@ -90,6 +95,8 @@ def filled(case, entry, texts):
         "second": case.places.get("SECOND", ""),
         "stations": case.places.get("STATIONS", ""),
         "station": case.places.get("STATION", ""),
+        "mass": case.places.get("MASS", ""),
+        "most": most_mass(case),
         "last": last_station(case),
         "why": why_unread(case.job_name if entry == "fault read job" else case.offsets_name),
     }
@@ -128,6 +135,13 @@ def last_station(case):
         count = len(offset_rows.stations_of(case.rows))
         return f", and the last of {case.offsets_name} is {count - 1}" if count else ""
     return ""
+
+
+def most_mass(case):
+    """What the whole hull displaces: its volume and, where the job's density can be read, the mass of so much water."""
+    six, density = case.number("SIX"), case.tables().get("density")
+    most = f"{six // 6_000_000_000} m³"
+    return f"{most}, which is {six * density // 6_000_000_000} kg" if isinstance(density, int) else most
 
 
 def why_unread(name):

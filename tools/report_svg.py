@@ -6,8 +6,8 @@
     tools/report_svg.py REPORT --curve NAME > curve.svg
 
 The curves are volume, displacement, lcb, kb, waterplane, lcf, bmt, bml, kmt, tpc, mct (hydro lines, over the draft),
-station0, station1, .. (section lines: the area of that station over the draft), gz and area (arm lines, over degrees of
-heel). Reports may be joined to one file: curves take the lines of all. Figures that are absent break a curve.
+station0, station1, .. (section lines: the area of that station over the draft), kn6000000, .. (cross lines: KN over the
+heel, one curve for each displacement in kg), gz and area (arm lines, over degrees of heel). Reports may be joined to one file: curves take the lines of all. Figures that are absent break a curve.
 
 A point is a figure of the report. Its interval is drawn as a bar where it is at least a pixel high; else the point
 covers it. The thin line joins the points: between them nothing is certified. Hydro points at drafts at which no
@@ -85,6 +85,13 @@ def arm_curves(lines):
         yield name, Curve("heel, degrees", title, points)
 
 
+def cross_curves(lines):
+    rows = [words for words in lines if words[0] == "cross"]
+    for mass in sorted({int(words[1]) for words in rows}):
+        points = [Point(float(words[2]), report_lines.figure_of(words[5]), False) for words in rows if int(words[1]) == mass]
+        yield f"kn{mass}", Curve("heel, degrees", f"KN at {mass / 1000:,g} t, m", points)
+
+
 def station_curves(lines, tops):
     rows = [words for words in lines if words[0] == "section"]
     for station in sorted({int(words[1]) for words in rows}):
@@ -96,7 +103,7 @@ def station_curves(lines, tops):
 
 def curves_of(lines, tops):
     """The curves that have a figure, by name. `tops` are the heights of the stations' top points, or none."""
-    found = [*hydro_curves(lines, tops), *arm_curves(lines), *station_curves(lines, tops)]
+    found = [*hydro_curves(lines, tops), *cross_curves(lines), *arm_curves(lines), *station_curves(lines, tops)]
     return {
         name: Curve(curve.across, curve.title, sorted(curve.points, key=lambda point: point.place))
         for name, curve in found
@@ -185,23 +192,23 @@ class Panel:
         return [*self.axes(), self.line(), *marks]
 
 
-def is_station(name):
-    return name.startswith("station")
+def family_of(name):
+    """The curves that share a frame with this one, so that they can be compared: all stations, or KN of all displacements."""
+    return name.rstrip("0123456789")
 
 
 def drawing(curves, heading):
-    """A sheet of the curves, by name; stations share one frame, so that they can be compared."""
+    """A sheet of the curves, by name; curves of one family share a frame."""
     columns = min(MOST_COLUMNS, max(1, math.isqrt(len(curves) - 1) + 1))
     rows = -(-len(curves) // columns)
     width, height = columns * WIDTH, HEAD + rows * HEIGHT + FOOT
-    stations = [curve for name, curve in curves.items() if is_station(name)]
     parts = [
         f'<svg xmlns="http://www.w3.org/2000/svg" viewBox="0 0 {width} {height}" font-family="sans-serif" font-size="11">',
         f'<rect width="{width}" height="{height}" fill="white"/>',
         f'<text x="16" y="26" font-size="16">{heading}</text>',
     ]
     for at, (name, curve) in enumerate(curves.items()):
-        frame = frame_of(stations if is_station(name) else [curve])
+        frame = frame_of([other for other_name, other in curves.items() if family_of(other_name) == family_of(name)])
         parts.append(f'<g transform="translate({at % columns * WIDTH} {HEAD + at // columns * HEIGHT})">')
         parts += [*Panel(curve, frame).parts(), "</g>"]
     notes = list(NOTES)
@@ -235,7 +242,7 @@ def main():
     lines = report_lines.read(given.report)
     curves = curves_of(lines, tops_of(given.offsets) if given.offsets else [])
     if not curves:
-        sys.exit(f"{given.report}: it has no figures to draw; has the job drafts?")
+        sys.exit(f"{given.report}: it has no figures to draw; has the job drafts or displacements?")
     if given.curve and given.curve not in curves:
         sys.exit(f"{given.report}: no curve {given.curve}; there are {' '.join(curves)}")
     if given.curve:

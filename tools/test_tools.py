@@ -113,7 +113,7 @@ def keys_of_specs():
 
 def lines_of_specs():
     """Every line that the program may write in place of a report."""
-    lines = ["refused usage", "refused long job", "refused long offsets", "refused station 3", "fault read job", "fault read offsets"]
+    lines = ["refused usage", "refused long job", "refused long offsets", "refused station 3", "refused heavy 20500001 120000000000000", "fault read job", "fault read offsets"]
     lines += [f"refused offsets {form}" for form in fault_forms("offset")]
     for form in fault_forms("job"):
         keys = keys_of_specs() if "KEY" in form else [""]
@@ -139,7 +139,7 @@ class Texts(unittest.TestCase):
         self.assertGreater(len(fault_forms("offset")) + len(fault_forms("job")), 20)
         self.assertGreater(len(keys_of_specs()), 25)
         causes = re.findall(r"(?m)^cause_text \(?(\w+)", spec_of("report_run", "Refusals.antt"))
-        self.assertEqual(sorted(causes), ["Job", "Long", "Offsets", "Station", "Usage"])
+        self.assertEqual(sorted(causes), ["Heavy", "Job", "Long", "Offsets", "Station", "Usage"])
 
     def test_every_refusal_and_fault_has_its_sentence(self):
         for line in lines_of_specs():

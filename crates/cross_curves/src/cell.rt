@@ -76,7 +76,10 @@ fn kn_between(faces: &Faces, bracket: &Bracket, need: &Ratio, drafts: &Drafts) -
     ensures ends { IsBigNeed (fraction_of need.now) → EndsBelow 96 result.lo result.hi }
 {
     match PlaneBox::level(*bracket, drafts.d1, drafts.d2) {
-        Some(planes) => by_need(measure(faces, &planes).mv, need),
+        Some(planes) => {
+            let below = measure(faces, &planes);
+            by_need(below.mv, need)
+        }
         None => unreachable!(),
     }
 }

@@ -41,6 +41,12 @@ const CARGO: &str = "\
 95000 200,0 900,1000 1700,3000 2500,6000 3500,9000 5200,12000\n\
 102000 0,12000";
 
+// Two wedges, keel to keel, with a plate of no breadth from 4 m to 6 m of height between them.
+const WAIST: &str = "\
+0 10000,0 0,4000 0,6000 10000,10000\n\
+50000 10000,0 0,4000 0,6000 10000,10000\n\
+100000 10000,0 0,4000 0,6000 10000,10000";
+
 // A mass in kg in water of 1025 kg/m³, a degree, and the levels between which the ship floats there.
 const CARGO_LEVELS: &str = "\
 8380000 0 6705461 6705462\n\
@@ -97,6 +103,14 @@ fn is_near(drafts: &Result<Drafts, TooHeavy>, low: i64, high: i64) -> bool {
     }
 }
 
+// Whether the levels lie around two others, a tenth of a millimetre away at most.
+fn spans(drafts: &Result<Drafts, TooHeavy>, low: i64, high: i64) -> bool {
+    match drafts {
+        Ok(d) => d.d1 <= low && low - 102 <= d.d1 && high <= d.d2 && d.d2 <= high + 102,
+        Err(_) => false,
+    }
+}
+
 #[test]
 fn the_barge_at_its_load(rt: HostRuntime) -> Result<(), Fail> {
     let faces = faces_with(rt.alloc(), BARGE)?.expect(&rt, "a hull");
@@ -118,6 +132,15 @@ fn the_barge_wholly_under_and_too_heavy(rt: HostRuntime) -> Result<(), Fail> {
     let heavier = float_at(&faces, degree, &volume_of(&rt, 20500001));
     let six = 120000000000000;
     assert_eq!(rt; heavier, Err(TooHeavy { six }));
+    Ok(())
+}
+
+// The volume of the lower wedge is that of every level of the plate.
+#[test]
+fn a_ship_floats_at_its_waist(rt: HostRuntime) -> Result<(), Fail> {
+    let faces = faces_with(rt.alloc(), WAIST)?.expect(&rt, "a hull");
+    let drafts = float_at(&faces, degree(&rt, 0), &volume_of(&rt, 4100000));
+    assert!(rt; spans(&drafts, 4096000, 6144000), "{drafts:?}");
     Ok(())
 }
 

@@ -1,6 +1,6 @@
 pub mod Complete
 pub mod Counts
+pub mod CrossLines
 pub mod Listed
-pub mod NoVerdict
 pub mod Numbers
 pub mod Parts

@@ -1,11 +1,8 @@
--- Lists of lines that grow at their end.
+-- Lists that grow at their end.
 use Rattle.std.proofs.Common.{◌≡◌, ◌∙◌, refl, sym, ap, subst, ℕ, suc, ◌+◌, List, [], ◌∷◌, ◌++◌, length, append_assoc, Result, Ok, Err, IfOk, IfErr, arith}
 use Rattle.std.specs.List.{AllByRecursion}
 use Rattle.std.proofs.lemmas.List.{append-nil}
-use Rattle.hull_model.specs.declared.station.Station.{Station}
-use Rattle.hull_report.specs.declared.line.Line.{Line}
-use Rattle.hull_cli.specs.Sections.{IsSectionLine, AreSectionsFrom}
-use Rattle.hull_cli.specs.Tables.{Pairwise, Joined}
+use Rattle.hull_cli.specs.Lists.{Joined, NumberedFrom, Pairwise}
 
 pub all_more : {A : Type 0} (P : A → Type 0) (xs ys : List A) → AllByRecursion P xs → AllByRecursion P ys → AllByRecursion P (xs ++ ys)
 all_more P [] ys all more = more
@@ -17,15 +14,14 @@ pairs_more R [] (b' ∷ bs) a b pairs more = absurd pairs
 pairs_more R (a' ∷ others) [] a b pairs more = absurd pairs
 pairs_more R (a' ∷ others) (b' ∷ bs) a b pairs more = (pairs.0, pairs_more R others bs a b pairs.1 more)
 
-pub sections_more : (hull : List Station) (draft station : ℕ) (lines : List Line) (n : ℕ) (l : Line)
-    → AreSectionsFrom hull draft station lines → n ≡ length lines + station → IsSectionLine hull draft n l → AreSectionsFrom hull draft station (lines ++ l ∷ [])
-sections_more hull draft station [] n l lines place more = (subst (λ (k : ℕ). IsSectionLine hull draft k l) (omega (arith, place)) more, tt)
-sections_more hull draft station (first ∷ rest) n l lines place more = (lines.0, sections_more hull draft (suc station) rest n l lines.1 (omega (arith, place)) more)
+pub numbered_more : {A : Type 0} (R : ℕ → A → Type 0) (from : ℕ) (entries : List A) (n : ℕ) (one : A) → NumberedFrom R from entries → n ≡ length entries + from → R n one → NumberedFrom R from (entries ++ one ∷ [])
+numbered_more R from [] n one are place more = (subst (λ (k : ℕ). R k one) (omega (arith, place)) more, tt)
+numbered_more R from (first ∷ rest) n one are place more = (are.0, numbered_more R (suc from) rest n one are.1 (omega (arith, place)) more)
 
-pub joined_more : {A : Type 0} (part : A → List Line → Type 0) (ones : List A) (one : A) (lines more : List Line) → Joined part ones lines → part one more → Joined part (ones ++ one ∷ []) (lines ++ more)
+pub joined_more : {A B : Type 0} (part : A → List B → Type 0) (ones : List A) (one : A) (lines more : List B) → Joined part ones lines → part one more → Joined part (ones ++ one ∷ []) (lines ++ more)
 joined_more part [] one lines more none is = (more, [], rw none (sym (append-nil more)), is, refl)
 joined_more part (first ∷ others) one lines more are is =
-    (are.0, are.1 ++ more, ap (λ (t : List Line). t ++ more) are.2 ∙ append_assoc are.0 are.1 more, are.3, joined_more part others one are.1 more are.4 is)
+    (are.0, are.1 ++ more, ap (λ (t : List _). t ++ more) are.2 ∙ append_assoc are.0 are.1 more, are.3, joined_more part others one are.1 more are.4 is)
 
 -- what is known of every value of a result
 pub of_each_ok : {A E : Type 0} (P Q : A → Type 0) → ((a : A) → P a → Q a) → (r : Result A E) → IfOk r P → IfOk r Q

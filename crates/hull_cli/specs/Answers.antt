@@ -3,9 +3,12 @@ use Rattle.std.specs.Prelude.{ℕ, ◌≡◌, ◌≤◌, ◌<◌, ◌⊎◌, Lis
 use Rattle.job_reader.specs.declared.job.Job.{Job}
 use Rattle.job_reader.specs.Job.{IsJobOfFile}
 use Rattle.offset_reader.specs.Offsets.{hull_of}
+use Rattle.draft_bracket.specs.DraftBracket.{six_of}
 use Rattle.hull_model.specs.declared.station.Station.{Station}
+use Rattle.hull_model.specs.declared.water.Water.{Water}
 use Rattle.hull_report.specs.Spelling.{lines_text}
 use Rattle.hull_report.specs.declared.line.Command.{Command}
+use Rattle.hull_report.specs.declared.line.Command.TheVariants as command
 use Rattle.hull_report.specs.declared.line.Line.{Line}
 use Rattle.report_run.specs.declared.status.Status.{Status}
 use Rattle.report_run.specs.declared.status.Status.TheVariants.{Refused, ReadFault, WriteFault, NoMemory}
@@ -17,6 +20,7 @@ use Rattle.report_run.specs.Files.{BothRead, CanBeRead, JobCanBeRead, JobRead, R
 use Rattle.report_run.specs.Refusals.{refusal_text, unread_text}
 use Rattle.report_run.specs.Shelves.{Shelves, Unread}
 use Rattle.report_run.specs.Stops.{DueToJob, DueToOffsets}
+use Rattle.hull_cli.specs.Curves.{IsFirstTooHeavy}
 use Rattle.hull_cli.specs.Report.{IsSectionReport, IsTablesReport}
 use Rattle.hull_cli.specs.Verdicts.{status_of}
 use Rattle.hull_cli.specs.Words.{Form, section, tables, form_of}
@@ -26,9 +30,15 @@ abbrev pub DueToStation : Shelves → List ℕ → ℕ → Refusal → Type 0
 DueToStation shelves offsets station (refusal.Station named) = (bytes : List ℕ) × Read shelves offsets bytes × (length (hull_of bytes) ≤ station) × (named ≡ station)
 DueToStation shelves offsets station _ = ⊥
 
+-- this refusal is due to the first of these displacements that is too heavy for the hull
+abbrev pub DueToMasses : List Station → Water → List ℕ → Refusal → Type 0
+DueToMasses hull water masses (refusal.Heavy mass six) = IsFirstTooHeavy hull water masses mass × (six ≡ six_of hull)
+DueToMasses hull water masses _ = ⊥
+
 -- this refusal is due to what the command finds in the job and the hull
 abbrev pub DueToCommand : Command → Job → List Station → Refusal → Type 0
-DueToCommand command job hull cause = ⊥
+DueToCommand command.Cross job hull cause = DueToMasses hull job.water job.masses cause
+DueToCommand _ job hull cause = ⊥
 
 -- this refusal is due to what a command with these files asks for; the offset file counts only where the job was read,
 -- what the command finds in them only where both were

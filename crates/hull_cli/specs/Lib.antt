@@ -1,4 +1,7 @@
 pub mod Answers
+pub mod Curves
+pub mod Floats
+pub mod Lists
 pub mod Report
 pub mod Requests
 pub mod Sections

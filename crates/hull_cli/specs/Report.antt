@@ -1,8 +1,7 @@
 -- The report that each command is to write.
-use Rattle.std.specs.Prelude.{ℕ, ℤ, pos, ◌+◌, ◌≡◌, List, [], ◌∷◌, ◌++◌, length, sum_by}
+use Rattle.std.specs.Prelude.{ℕ, ◌+◌, ◌≡◌, List, [], ◌∷◌, ◌++◌, length, sum_by}
+use Rattle.draft_bracket.specs.DraftBracket.{six_of}
 use Rattle.hull_model.specs.declared.station.Station.{Station}
-use Rattle.hull_model.specs.Boundary.{sum_of}
-use Rattle.hull_model.specs.Tetrahedra.{hull_tetrahedra, six_times}
 use Rattle.job_reader.specs.declared.job.Job.{Job}
 use Rattle.hull_report.specs.declared.line.Command.{Command}
 use Rattle.hull_report.specs.declared.line.Command.TheVariants as command
@@ -18,10 +17,6 @@ points_count stations = sum_by (λ s. length s.points) stations
 abbrev pub hull_line : List Station → Line
 hull_line hull = line.Hull (length hull) (points_count hull)
 
--- six times the volume of a hull's tetrahedra, in mm³
-abbrev pub six_volume : List Station → ℤ
-six_volume hull = sum_of (λ t. pos (six_times t)) (hull_tetrahedra hull)
-
 -- the lines of the report on one station of a hull
 pub record IsSectionReport (hull : List Station) (station draft : ℕ) (lines : List Line) : Type 0 where
   pub row : Line
@@ -30,7 +25,7 @@ pub record IsSectionReport (hull : List Station) (station draft : ℕ) (lines : 
 
 -- the lines of a report that has a job: the header, the hull, the body, the rows of its tables, and the number of all lines
 abbrev pub whole_report : Command → List Station → List Line → List Line
-whole_report command hull rows = line.Header command ∷ hull_line hull ∷ line.Body (six_volume hull) ∷ rows ++ line.End (4 + length rows) ∷ []
+whole_report command hull rows = line.Header command ∷ hull_line hull ∷ line.Body (six_of hull) ∷ rows ++ line.End (4 + length rows) ∷ []
 
 -- the lines of the report of a command's tables
 pub record IsTablesReport (command : Command) (hull : List Station) (job : Job) (lines : List Line) : Type 0 where

@@ -1,5 +1,5 @@
 -- The section lines of a report.
-use Rattle.std.specs.Prelude.{ℕ, suc, pos, ◌≡◌, ⊤, List, [], ◌∷◌, length, slice_get, Some}
+use Rattle.std.specs.Prelude.{ℕ, pos, ◌≡◌, List, length, slice_get, Some}
 use Rattle.exact_algebra.proofs.Span.{IsLeastSpanOf}
 use Rattle.outward_interval.specs.Printed.{IsPrinted}
 use Rattle.outward_interval.specs.declared.figure.Figure.{Figure}
@@ -9,6 +9,7 @@ use Rattle.hull_model.specs.Stations.{points_at}
 use Rattle.bonjean_curves.specs.declared.curve.SectionSpans.{SectionSpans}
 use Rattle.hull_report.specs.declared.line.Line.{Line}
 use Rattle.hull_report.specs.declared.line.Line.TheVariants as line
+use Rattle.hull_cli.specs.Lists.{NumberedFrom}
 
 -- the line of one station of a hull at a draft: its x, and the figures in m² and m³ of the least spans of its exact section
 pub record IsSectionLine (hull : List Station) (draft station : ℕ) (l : Line) : Type 0 where
@@ -25,12 +26,7 @@ pub record IsSectionLine (hull : List Station) (draft station : ℕ) (l : Line) 
   pub place : pos x ≡ at.x
   pub fields : l ≡ line.Section station x draft area moment
 
--- these are the lines of the stations from this number on
-abbrev pub AreSectionsFrom : List Station → ℕ → ℕ → List Line → Type 0
-AreSectionsFrom hull draft station [] = ⊤
-AreSectionsFrom hull draft station (l ∷ lines) = IsSectionLine hull draft station l × AreSectionsFrom hull draft (suc station) lines
-
 -- one line for each station of a hull at a draft, from station 0 up
 pub record AreSectionLines (hull : List Station) (draft : ℕ) (lines : List Line) : Type 0 where
   pub count : length lines ≡ length hull
-  pub each : AreSectionsFrom hull draft 0 lines
+  pub each : NumberedFrom (IsSectionLine hull draft) 0 lines

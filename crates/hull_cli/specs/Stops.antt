@@ -1,13 +1,16 @@
 -- A model of the private functions that may end in a `Stop`: why there is no report.
 use Rattle.std.specs.Prelude.{ℕ, ◌≡◌, ◌≤◌, ⊤, List, length}
+use Rattle.draft_bracket.specs.DraftBracket.{IsTooHeavy, six_of}
 use Rattle.hull_model.specs.declared.station.Station as model
+use Rattle.hull_model.specs.declared.water.Water.{Water}
 use Rattle.job_reader.specs.declared.job.Job.{Job}
+use Rattle.loading_sheet.specs.Centre.{displaced_by}
 use Rattle.hull_report.specs.declared.line.Command.{Command}
-use Rattle.report_run.specs.declared.stop.Refusal.TheVariants.{Station}
+use Rattle.report_run.specs.declared.stop.Refusal.TheVariants.{Heavy, Station}
 use Rattle.report_run.specs.declared.stop.Stop.{Stop}
 use Rattle.report_run.specs.declared.stop.Stop.TheVariants as stop
 use Rattle.report_run.specs.Shelves.{Shelves}
-use Rattle.hull_cli.specs.Answers.{Due, DueTo, DueToCommand, LeftUnread, UnreadBy}
+use Rattle.hull_cli.specs.Answers.{Due, DueTo, DueToCommand, DueToMasses, LeftUnread, UnreadBy}
 use Rattle.hull_cli.specs.Words.{Form}
 
 -- Want of memory may come at any time.
@@ -30,6 +33,19 @@ StopsSection hull station (stop.Refused (Station named)) = (named ≡ station) �
 StopsSection hull station (stop.Refused _) = ⊥
 StopsSection hull station (stop.Unread _) = ⊥
 StopsSection hull station stop.NoMemory = ⊤
+
+-- why there is no cross curve of a hull at this displacement
+abbrev pub StopsCurve : List model.Station → Water → ℕ → Stop → Type 0
+StopsCurve hull water mass (stop.Refused (Heavy named six)) = ((named ≡ mass) × IsTooHeavy hull (displaced_by mass water)) × (six ≡ six_of hull)
+StopsCurve hull water mass (stop.Refused _) = ⊥
+StopsCurve hull water mass (stop.Unread _) = ⊥
+StopsCurve hull water mass stop.NoMemory = ⊤
+
+-- why there are none at these displacements
+abbrev pub StopsCurves : List model.Station → Water → List ℕ → Stop → Type 0
+StopsCurves hull water masses (stop.Refused cause) = DueToMasses hull water masses cause
+StopsCurves hull water masses (stop.Unread _) = ⊥
+StopsCurves hull water masses stop.NoMemory = ⊤
 
 -- why there is no report of this command on a job and a hull
 abbrev pub StopsTables : Command → Job → List model.Station → Stop → Type 0

@@ -1,5 +1,5 @@
--- The lines of tables over a job's drafts.
-use Rattle.std.specs.Prelude.{ℕ, ◌≡◌, ⊤, List, [], ◌∷◌, ◌++◌, Option, Some, None}
+-- The lines of tables over a job's drafts and displacements.
+use Rattle.std.specs.Prelude.{ℕ, ◌≡◌, ⊤, List, [], ◌∷◌, Option, Some, None}
 use Rattle.outward_interval.specs.Printed.{IsPrinted}
 use Rattle.outward_interval.specs.declared.figure.Figure.{Figure}
 use Rattle.outward_interval.specs.declared.span.Span.{Span}
@@ -13,14 +13,9 @@ use Rattle.hull_report.specs.declared.line.Command.{Command}
 use Rattle.hull_report.specs.declared.line.Command.TheVariants as command
 use Rattle.hull_report.specs.declared.line.Line.{Line}
 use Rattle.hull_report.specs.declared.line.Line.TheVariants as line
+use Rattle.hull_cli.specs.Curves.{AreCrossLines}
+use Rattle.hull_cli.specs.Lists.{Joined, Pairwise}
 use Rattle.hull_cli.specs.Sections.{AreSectionLines}
-
--- two lists of one length, of which what stands in the same place is so related
-abbrev pub Pairwise : {A B : Type 0} → (A → B → Type 0) → List A → List B → Type 0
-Pairwise R [] [] = ⊤
-Pairwise R [] (b ∷ bs) = ⊥
-Pairwise R (a ∷ others) [] = ⊥
-Pairwise R (a ∷ others) (b ∷ bs) = R a b × Pairwise R others bs
 
 -- a span that may be absent, and by which power of ten its unit is smaller than that of its figure
 pub record Column : Type 0 where
@@ -66,12 +61,6 @@ pub record IsHydroLine (hull : List Station) (water : Water) (draft : ℕ) (l : 
 abbrev pub AreHydroLines : List Station → Water → List ℕ → List Line → Type 0
 AreHydroLines hull water drafts lines = Pairwise (IsHydroLine hull water) drafts lines
 
--- the lines of parts, one after the other, each in its relation to what it is made of
-abbrev pub Joined : {A : Type 0} → (A → List Line → Type 0) → List A → List Line → Type 0
-Joined part [] lines = lines ≡ []
-Joined part (one ∷ others) lines =
-    (first : List Line) × (later : List Line) × (lines ≡ first ++ later) × part one first × Joined part others later
-
 -- for each draft one line for each station, draft after draft
 abbrev pub AreBonjeanLines : List Station → List ℕ → List Line → Type 0
 AreBonjeanLines hull drafts lines = Joined (AreSectionLines hull) drafts lines
@@ -80,4 +69,5 @@ AreBonjeanLines hull drafts lines = Joined (AreSectionLines hull) drafts lines
 abbrev pub AreTableLines : Command → List Station → Job → List Line → Type 0
 AreTableLines command.Hydro hull job lines = AreHydroLines hull job.water job.drafts lines
 AreTableLines command.Bonjean hull job lines = AreBonjeanLines hull job.drafts lines
+AreTableLines command.Cross hull job lines = AreCrossLines hull job.water job.masses lines
 AreTableLines _ hull job lines = ⊥

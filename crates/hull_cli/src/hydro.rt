@@ -7,7 +7,8 @@ ghost use Rattle.hull_polyhedron.specs.FacesOf.{AreFacesOf};
 ghost use Rattle.hydro_tables.specs.Row.{AreBounded, IsBoundedIfThere};
 ghost use Rattle.job_reader.specs.Limits.{is_from};
 ghost use Rattle.hull_report.specs.Spelling.{IsLine, IsWord, AreLines, AreWords, figure_or_absent, figure_words, may_be_absent};
-ghost use Rattle.hull_cli.specs.Tables.{AreHydroLines, IsHydroLine, IsFigureOf, IsColumnFigure, Pairwise, columns_of};
+ghost use Rattle.hull_cli.specs.Lists.{Pairwise};
+ghost use Rattle.hull_cli.specs.Tables.{AreHydroLines, IsHydroLine, IsFigureOf, IsColumnFigure, columns_of};
 
 use exact_fraction::Memory;
 use hull_model::Water;

@@ -2,6 +2,7 @@
 #![tactic(auto)]
 
 mod commands;
+mod cross;
 mod hull_line;
 mod hydro;
 mod section;

@@ -1,4 +1,4 @@
-// Tables over the drafts of a job.
+// Tables over the drafts or displacements of a job.
 ghost use Rattle.std.specs.Prelude.{◌≡◌, ◌≤◌, ◌+◌, ◌*◌, ◌^◌, true, [], ◌∷◌, ◌++◌, IfOk, IfErr, length};
 ghost use Rattle.std.specs.List.{list_all};
 ghost use Rattle.hull_model.specs.Body.{IsHull};
@@ -11,6 +11,7 @@ ghost use Rattle.hull_cli.specs.Stops.{StopsTables};
 ghost use Rattle.hull_cli.specs.Tables.{AreBonjeanLines, AreTableLines};
 ghost use Rattle.hull_cli.specs.Words.{HasTables};
 
+use crate::cross::cross_lines;
 use crate::hull_line::hull_line;
 use crate::hydro::hydro_lines;
 use crate::section::section_lines;
@@ -65,6 +66,7 @@ fn table_lines(
     match command {
         Command::Hydro => Ok(hydro_lines(alloc, faces, &job.water, drafts)?),
         Command::Bonjean => Ok(bonjean_lines(alloc, hull, drafts)?),
+        Command::Cross => cross_lines(alloc, faces, &job.water, job.masses.as_slice()),
         _ => unreachable!(),
     }
 }

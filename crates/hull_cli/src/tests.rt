@@ -1,4 +1,5 @@
 mod cargo;
+mod curves;
 mod refusals;
 mod reports;
 mod words;

@@ -6,6 +6,8 @@ mod loads;
 mod sums;
 #[cfg(test)]
 mod tests;
+mod volume;
 
 pub use loading::{LoadFault, Loading};
 pub use loads::load;
+pub use volume::volume_displaced;

@@ -6,12 +6,10 @@ ghost use Rattle.exact_algebra.proofs.Whole.{whole};
 ghost use Rattle.exact_fraction.specs.Fraction.{fraction_of};
 ghost use Rattle.loading_sheet.specs.Limits.{IsLoading};
 
+use crate::volume_displaced;
 use exact_fraction::Ratio;
 use hull_model::Water;
 use outward_interval::Span;
-
-/// mm³ in a m³: a mass in kg times this, over a density in kg per m³, is a volume in mm³.
-const CUBIC_MILLIMETRES: i128 = 1_000_000_000;
 
 /// What is in a ship: its mass in kg, and its moments in kg·mm.
 ///
@@ -45,11 +43,7 @@ impl Loading {
         ensures numerator { result.num ≡ pos (self.now.mass * 10 ^ 9) }
         ensures denominator { result.den ≡ pos water.now.density }
     {
-        let mass = i128::from(self.mass);
-        match Ratio::new(mass * CUBIC_MILLIMETRES, i128::from(water.density)) {
-            Some(volume) => volume,
-            None => unreachable!(),
-        }
+        volume_displaced(self.mass, water)
     }
 
     /// The x of the centre in mm: the least span that contains it.

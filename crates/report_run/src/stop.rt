@@ -2,11 +2,11 @@
 ghost use Rattle.std.specs.Prelude.{◌≡◌, ◌++◌, IfOk, OnOk, string_bytes};
 
 use crate::faults::{push_job_fault, push_offset_fault};
-use crate::refused::{push_place, push_word};
+use crate::refused::{push_number, push_place, push_word};
 use exact_fraction::Memory;
 use job_reader::JobFault;
 use offset_reader::OffsetFault;
-use std::alloc::{AllocError, Global};
+use std::alloc::{AllocError, AllocFailed, Global};
 
 /// The files that a run reads.
 #[derive(Clone, Copy, Debug)]
@@ -41,6 +41,9 @@ pub enum Refusal {
     Offsets(OffsetFault),
     /// The hull has no station of this number.
     Station(u32),
+    /// The ship with this mass in kg is heavier than the water that its whole hull displaces; `six` is six times the hull's
+    /// volume in mm³.
+    Heavy { mass: u64, six: i128 },
 }
 
 impl From<Memory> for Stop {
@@ -59,6 +62,16 @@ impl From<AllocError> for Stop {
     ghost from_gives = { λ _ stop. stop ≡ NoMemory };
 
     fn from(_: AllocError) -> Stop {
+        Stop::NoMemory
+    }
+}
+
+impl<T: Drop> From<AllocFailed<T>> for Stop {
+    ghost use Rattle.report_run.specs.declared.stop.Stop.TheVariants.{NoMemory};
+
+    ghost from_gives = { λ _ stop. stop ≡ NoMemory };
+
+    fn from(_: AllocFailed<T>) -> Stop {
         Stop::NoMemory
     }
 }
@@ -118,6 +131,11 @@ impl Refusal {
                 push_offset_fault(text, fault)
             }
             Refusal::Station(station) => push_place(text, "station", *station),
+            Refusal::Heavy { mass, six } => {
+                push_word(text, "heavy")?;
+                push_number(text, *mass)?;
+                push_number(text, *six)
+            }
         }
     }
 }

@@ -67,6 +67,14 @@ fn each_stop_has_its_line(rt: HostRuntime) -> Result<(), Fail> {
         line_of(alloc, long)?.as_slice(),
         b"refused long job\n".as_slice()
     );
+    let heavy = Some(Stop::Refused(Refusal::Heavy {
+        mass: 20500001,
+        six: 120000000000000,
+    }));
+    assert_eq!(rt;
+        line_of(alloc, heavy)?.as_slice(),
+        b"refused heavy 20500001 120000000000000\n".as_slice()
+    );
     Ok(())
 }
 

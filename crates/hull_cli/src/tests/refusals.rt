@@ -17,6 +17,11 @@ const HULLS: &str = "\
 3@refused offsets novolume/@hydro|job.toml|hull.csv@version = 1/density = 1025/length_bp = 100000/@0,0,0/0,0,9/5,0,0/5,0,9/9,0,0/9,0,9/\n\
 ";
 
+// By the first displacement that is more than the whole hull's.
+const HEAVY: &str = "\
+3@refused heavy 20500001 120000000000000/@cross|job.toml|hull.csv@version = 1/density = 1025/length_bp = 100000/displacements = [10250000, 20500001, 20500002]/\n\
+";
+
 // The job before the hull.
 const JOBS: &str = "\
 3@refused job text/@bonjean|job.toml|hull.csv@version = \n\
@@ -40,6 +45,12 @@ const JOBS: &str = "\
 #[test]
 fn each_hull_is_refused_by_its_first_fault(rt: HostRuntime) -> Result<(), Fail> {
     assert_eq!(rt; wrong_case(rt.alloc(), HULLS)?, None);
+    Ok(())
+}
+
+#[test]
+fn the_first_that_is_too_heavy_is_named(rt: HostRuntime) -> Result<(), Fail> {
+    assert_eq!(rt; wrong_case(rt.alloc(), HEAVY)?, None);
     Ok(())
 }
 

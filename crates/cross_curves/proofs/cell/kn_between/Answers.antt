@@ -15,7 +15,7 @@ returns-clause-holds c hull is are d lies at between =
     let first : SFits w64 c.args.drafts.now.d1 = fits_64 _ (omega (arith, c.args.drafts.now.first_range)) in
     let last : SFits w64 c.args.drafts.now.d2 = fits_64 _ (omega (arith, c.args.drafts.now.last_range)) in
     let box = box_from c.in-Some.planes c.args.bracket.now drafts.d1 drafts.d2 _ _ (to_z-of_z w64 drafts.d1 first) (to_z-of_z w64 drafts.d2 last) c.in-Some.ensures.same in
-    c.by_need.ensures.contains _ (c.measure.ensures.mv hull is are (level_plane d at) (plane_is_in c.in-Some.planes c.args.bracket.now drafts.d1 drafts.d2 box d lies at between))
+    c.by_need.ensures.contains _ (c.measure-below.ensures.mv hull is are (level_plane d at) (plane_is_in c.in-Some.planes c.args.bracket.now drafts.d1 drafts.d2 box d lies at between))
 
 pub returns-clause-narrow : goal.returns-clause-narrow
 returns-clause-narrow c =
@@ -24,4 +24,4 @@ returns-clause-narrow c =
     let last : SFits w64 c.args.drafts.now.d2 = fits_64 _ (omega (arith, c.args.drafts.now.last_range)) in
     let box = box_from c.in-Some.planes c.args.bracket.now drafts.d1 drafts.d2 _ _ (to_z-of_z w64 drafts.d1 first) (to_z-of_z w64 drafts.d2 last) c.in-Some.ensures.same in
     narrow_from c.args.faces.now c.args.bracket.now (fraction_of c.args.need.now) drafts.d1 drafts.d2 c.by_need.result.lo c.by_need.result.hi c.in-Some.planes box
-    (c.by_need.ensures.narrow _ c.measure.ensures.mv_width)
+    (c.by_need.ensures.narrow _ c.measure-below.ensures.mv_width)
