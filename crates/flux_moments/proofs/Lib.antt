@@ -1,11 +1,13 @@
-pub mod QuotientSizes
 pub mod Levels
 pub mod FaceAreas
 pub mod ProductEnds
 pub mod Heights
+pub mod TriangleColumns
 pub mod FaceColumns
 pub mod SeenMeans
 pub mod ColumnSums
+pub mod PartCorners
+pub mod PartTotals
 pub mod SeenSums
 pub mod Measured
 pub mod MeanWidths

@@ -6,3 +6,4 @@ pub mod Sizes
 pub mod Widths
 pub mod ColumnSizes
 pub mod LidWidths
+pub mod Shared
