@@ -143,7 +143,7 @@ all_at P [] i other h all = absurd (omega (arith, h))
 all_at P (x ∷ xs) zero other h all = all.0
 all_at P (x ∷ xs) (suc i) other h all = all_at P xs i other (omega (arith, h)) all.1
 
-module _ (g : Face → Fraction) (faces : List Face) where
+module _ {A : Type 0} (g : A → Fraction) (faces : List A) where
   pub narrow-start : (s : Span 20) → (s.lo ≡ pos 0) × (s.hi ≡ pos 0) → IsNarrow 20 (sum_over g (take 0 faces)) s.lo s.hi
   unfolding sum_over
   narrow-start s e = rw (e.0, e.1) (record {
@@ -151,7 +151,7 @@ module _ (g : Face → Fraction) (faces : List Face) where
         (var 0 :- var 0) (number 0 :* var 1) refl);
   })
 
-  pub narrow-step : (count : ℕ) (other : Face) (s t r : Span 20) → count < length faces → IsNarrow 20 (sum_over g (take count faces)) s.lo s.hi
+  pub narrow-step : (count : ℕ) (other : A) (s t r : Span 20) → count < length faces → IsNarrow 20 (sum_over g (take count faces)) s.lo s.hi
       → IsNarrow 20 (g (get_or faces count other)) t.lo t.hi
       → AreEnds (s.lo +ℤ t.lo) (s.hi +ℤ t.hi) r.lo r.hi → IsNarrow 20 (sum_over g (take (count + 1) faces)) r.lo r.hi
   narrow-step count other s t r h before one are = subst (λ (w : Fraction). IsNarrow 20 w r.lo r.hi) (sym (sum-more g faces count other h))
@@ -159,7 +159,7 @@ module _ (g : Face → Fraction) (faces : List Face) where
 
   pub narrow-end : (count : ℕ) (s : Span 20) → length faces ≤ count → IsNarrow 20 (sum_over g (take count faces)) s.lo s.hi → IsNarrow 20
       (sum_over g faces) s.lo s.hi
-  narrow-end count s h all = subst (λ (xs : List Face). IsNarrow 20 (sum_over g xs) s.lo s.hi) (take-all faces count h) all
+  narrow-end count s h all = subst (λ (xs : List A). IsNarrow 20 (sum_over g xs) s.lo s.hi) (take-all faces count h) all
 
 -- what is known of each face
 pub reached_at : (planes : PlaneBox) (faces : List Face) (b : BoxSize) (h : Fraction) (count : ℕ) (other : Face) → count < length faces → AreReached

@@ -19,31 +19,35 @@ least_at_most B p q r s h i j k = omega (arith, ints, clamps)
 greatest_at_most : (B : ℕ) (p q r s : ℤ) → unsigned_abs p ≤ B → unsigned_abs q ≤ B → unsigned_abs r ≤ B → unsigned_abs s ≤ B → unsigned_abs (greatest_of p q r s) ≤ B
 greatest_at_most B p q r s h i j k = omega (arith, ints, clamps)
 
--- a span of parts of 1 in units of 2^-40, and a span of numbers that are at most n in units of 2^-20
-module _ (n : ℕ) {a b c d : ℤ} (h : EndsAtMost (2 ^ 40) a b) (k : EndsAtMost (n * 2 ^ 20) c d) where
-  pub turned_fits : n < 2 ^ 40 → ProductsBelow 126 a b c d
-  turned_fits few = products_fit (suc (2 ^ 40)) (suc (n * 2 ^ 20)) (omega (arith, few)) (at_most_less (2 ^ 40) h) (at_most_less (n * 2 ^ 20) k)
+-- a span of parts of 1 in units of 2^-40, and a span whose ends are at most m units of 2^-20
+module _ (m : ℕ) {a b c d : ℤ} (h : EndsAtMost (2 ^ 40) a b) (k : EndsAtMost m c d) where
+  pub turned_fits : m < 2 ^ 60 → ProductsBelow 126 a b c d
+  turned_fits few = products_fit (suc (2 ^ 40)) (suc m) (omega (arith, few)) (at_most_less (2 ^ 40) h) (at_most_less m k)
 
-  pub turned_ends : {lo hi : ℤ} → AreLeastEnds (least_product a b c d) (greatest_product a b c d) (2 ^ 20) lo hi → EndsAtMost (2 ^ 40 * n) lo hi
+  pub turned_ends : {lo hi : ℤ} → AreLeastEnds (least_product a b c d) (greatest_product a b c d) (2 ^ 20) lo hi → EndsAtMost (2 ^ 20 * m) lo hi
   turned_ends {lo} {hi} e = record {
-    low = floor-size (least_product a b c d) lo (2 ^ 20) (2 ^ 40 * n) (omega arith) (within (least_at_most (2 ^ 40 * (n * 2 ^ 20)) (a *ℤ c) (a *ℤ d) (b *ℤ c) (b *ℤ d) p q r s)) e.low;
-    high = ceiling-size (greatest_product a b c d) hi (2 ^ 20) (2 ^ 40 * n) (omega arith) (within (greatest_at_most (2 ^ 40 * (n * 2 ^ 20)) (a *ℤ c) (a *ℤ d) (b *ℤ c) (b *ℤ d) p q r s)) e.high;
+    low = floor-size (least_product a b c d) lo (2 ^ 20) (2 ^ 20 * m) (omega arith) (within (least_at_most (2 ^ 40 * m) (a *ℤ c) (a *ℤ d) (b *ℤ c) (b *ℤ d) p q r s)) e.low;
+    high = ceiling-size (greatest_product a b c d) hi (2 ^ 20) (2 ^ 20 * m) (omega arith) (within (greatest_at_most (2 ^ 40 * m) (a *ℤ c) (a *ℤ d) (b *ℤ c) (b *ℤ d) p q r s)) e.high;
   }
     where
-      p : unsigned_abs (a *ℤ c) ≤ 2 ^ 40 * (n * 2 ^ 20)
-      p = product_at_most (2 ^ 40) (n * 2 ^ 20) a c h.low k.low
+      p : unsigned_abs (a *ℤ c) ≤ 2 ^ 40 * m
+      p = product_at_most (2 ^ 40) m a c h.low k.low
 
-      q : unsigned_abs (a *ℤ d) ≤ 2 ^ 40 * (n * 2 ^ 20)
-      q = product_at_most (2 ^ 40) (n * 2 ^ 20) a d h.low k.high
+      q : unsigned_abs (a *ℤ d) ≤ 2 ^ 40 * m
+      q = product_at_most (2 ^ 40) m a d h.low k.high
 
-      r : unsigned_abs (b *ℤ c) ≤ 2 ^ 40 * (n * 2 ^ 20)
-      r = product_at_most (2 ^ 40) (n * 2 ^ 20) b c h.high k.low
+      r : unsigned_abs (b *ℤ c) ≤ 2 ^ 40 * m
+      r = product_at_most (2 ^ 40) m b c h.high k.low
 
-      s : unsigned_abs (b *ℤ d) ≤ 2 ^ 40 * (n * 2 ^ 20)
-      s = product_at_most (2 ^ 40) (n * 2 ^ 20) b d h.high k.high
+      s : unsigned_abs (b *ℤ d) ≤ 2 ^ 40 * m
+      s = product_at_most (2 ^ 40) m b d h.high k.high
 
-      within : {m : ℕ} → m ≤ 2 ^ 40 * (n * 2 ^ 20) → m ≤ 2 ^ 40 * n * 2 ^ 20
+      within : {n : ℕ} → n ≤ 2 ^ 40 * m → n ≤ 2 ^ 20 * m * 2 ^ 20
       within i = omega (arith, i)
+
+-- so many units are so many mm
+pub in_mm : (n : ℕ) {lo hi : ℤ} → EndsAtMost (2 ^ 20 * (n * 2 ^ 20)) lo hi → EndsAtMost (2 ^ 40 * n) lo hi
+in_mm n e = record { low = omega (arith, e.low); high = omega (arith, e.high) }
 
 -- sums and differences of two of them
 module _ {a b c d : ℤ} (h : EndsAtMost (2 ^ 40 * 65535) a b) (k : EndsAtMost (2 ^ 40 * 65535) c d) where

@@ -7,3 +7,4 @@ pub mod Widths
 pub mod ColumnSizes
 pub mod LidWidths
 pub mod Shared
+pub mod PartSizes

@@ -6,7 +6,7 @@ use Rattle.plane_clip.specs.declared.part.Part.{Part}
 use Rattle.plane_clip.specs.Between.{IsPartWithin}
 use Rattle.flux_moments.specs.Shared.{shared_column}
 use Rattle.flux_moments.proofs.ColumnSums.{sum-start, sum-allowed, sum-step, sum-end, sum-ends, all_at}
-use Rattle.flux_moments.proofs.PartTotals.{IsHeld, held_triangles, held-at, no_triangle}
+use Rattle.flux_moments.proofs.PartTotals.{IsHeld, widths-start, widths-more, widths-end, held_triangles, held-at, no_triangle}
 use Rattle.flux_moments.proofs.totals.doubled_sums.Goals as goal
 
 pub loop-part-init : goal.loop-part-init
@@ -15,6 +15,7 @@ loop-part-init c = record {
   mx = sum-start (IsHeld c.args.planes.now c.args.way.first c.args.way.last c.args.parts.now) _ 2 (5 * 2 ^ 97) (held_triangles c.args.planes.now c.args.way.first c.args.way.last c.args.parts.now) c.nothing-none.result c.nothing-none.ensures;
   mv = sum-start (IsHeld c.args.planes.now c.args.way.first c.args.way.last c.args.parts.now) _ 2 (5 * 2 ^ 95) (held_triangles c.args.planes.now c.args.way.first c.args.way.last c.args.parts.now) c.nothing-none.result c.nothing-none.ensures;
   mu = sum-start (IsHeld c.args.planes.now c.args.way.first c.args.way.last c.args.parts.now) _ 4 (41 * 2 ^ 95) (held_triangles c.args.planes.now c.args.way.first c.args.way.last c.args.parts.now) c.nothing-none.result c.nothing-none.ensures;
+  widths = widths-start c.args.planes.now c.args.way.first c.args.way.last c.args.parts.now c.nothing-none.result c.nothing-none.ensures;
 }
 
 pub part_columns-requires : goal.part_columns-requires
@@ -51,6 +52,8 @@ loop-part-preserved c = record {
       c.loop-part.part-index c.loop-part.sums.mu c.part_columns.result.mu c.loop-part-test.true c.loop-part.invariant.mu c.part_columns.ensures.ends.mu no_triangle c.add-sums.result.mu
       (λ h is. let u = get_or h.triangles c.loop-part.part-index no_triangle in c.part_columns.ensures.mu h.plane u.share u.at is.plane
       (held-at c.args.planes.now c.args.way.first c.args.way.last c.args.parts.now h is c.loop-part.part-index c.part-item.result c.part-item.is c.loop-part-test.true)) c.add-sums.ensures.mu;
+  widths = widths-more c.args.planes.now c.args.way.first c.args.way.last c.args.parts.now c.loop-part.part-index c.part-item.result c.loop-part.sums c.part_columns.result c.add-sums.result
+      c.loop-part-test.true c.part-item.is c.loop-part.invariant.widths c.part_columns.ensures.widths c.add-sums.ensures;
 }
 
 pub returns-clause-volume : goal.returns-clause-volume
@@ -84,3 +87,6 @@ returns-clause-ends c = record {
   mu = sum-ends (IsHeld c.args.planes.now c.args.way.first c.args.way.last c.args.parts.now) _ 4 (41 * 2 ^ 95) (held_triangles c.args.planes.now c.args.way.first c.args.way.last c.args.parts.now)
       4194303 c.loop-part.part-index c.loop-part.sums.mu (omega (arith, c.requires.few)) c.loop-part.invariant.mu;
 }
+
+pub returns-clause-widths : goal.returns-clause-widths
+returns-clause-widths c = widths-end c.args.planes.now c.args.way.first c.args.way.last c.args.parts.now c.loop-part.part-index c.loop-part.sums c.loop-part-test.false c.loop-part.invariant.widths

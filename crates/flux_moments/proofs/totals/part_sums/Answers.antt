@@ -10,6 +10,12 @@ use Rattle.hull_polyhedron.specs.Columns.{middle}
 use Rattle.plane_clip.specs.Between.{IsPartWithin}
 use Rattle.flux_moments.specs.Shared.{shared_columns}
 use Rattle.flux_moments.proofs.Measured.{divided}
+use Rattle.exact_algebra.proofs.Whole.{whole}
+use Rattle.hull_model.specs.Fractions.{sum_over}
+use Rattle.outward_interval.specs.Widths.{IsNarrow}
+use Rattle.outward_interval.proofs.Narrow.{narrow-over}
+use Rattle.flux_moments.specs.PartSizes.{part_area, part_length}
+use Rattle.flux_moments.specs.Sizes.{spread}
 use Rattle.flux_moments.proofs.PartTotals.{renamed_ends}
 use Rattle.flux_moments.proofs.ColumnSums.{quotient_at_most}
 use Rattle.flux_moments.proofs.ProductEnds.{at_most_below}
@@ -67,3 +73,20 @@ returns-clause-ends c = (
 pub returns-clause-volume_ends : goal.returns-clause-volume_ends
 returns-clause-volume_ends c = at_most_below (7 * 2 ^ 96) 99 (omega arith)
     (quotient_at_most (4194303 * (7 * 2 ^ 75)) (7 * 2 ^ 96) 2 (omega arith) c.doubled_sums-sums.ensures.ends.volume c.over_whole.ensures.ends)
+
+pub returns-clause-volume_width : goal.returns-clause-volume_width
+returns-clause-volume_width c b h t y z are enough = narrow-over t 2 (omega arith) c.over_whole.ensures.width (c.doubled_sums-sums.ensures.widths b h y z are).volume enough
+
+pub returns-clause-mv_width : goal.returns-clause-mv_width
+returns-clause-mv_width c b h t y z are enough = narrow-over t 2 (omega arith) c.over_whole-3.ensures.width (c.doubled_sums-sums.ensures.widths b h y z are).mv enough
+
+pub returns-clause-mu_width : goal.returns-clause-mu_width
+returns-clause-mu_width c b h t y z are enough = narrow-over t 4 (omega arith) c.over_whole-4.ensures.width (c.doubled_sums-sums.ensures.widths b h y z are).mu enough
+
+pub returns-clause-mx_width : goal.returns-clause-mx_width
+returns-clause-mx_width c b h t y z are enough =
+    let last : SFits w64 c.last_x.result = record { sfits = c.last_x.type_inv } in
+    let last_is = to_z-of_z w64 c.last_x.result last ∙ c.last_x.ensures.same in
+    narrow-over t 2 (omega arith) c.over_whole-2.ensures.width
+    (subst (λ (x : ℤ). IsNarrow 20 (sum_over (λ p. part_length (whole x) h (spread b h) (part_area p)) c.args.parts.now) c.doubled_sums-sums.result.mx.lo c.doubled_sums-sums.result.mx.hi)
+    last_is (c.doubled_sums-sums.ensures.widths b h y z are).mx) enough
