@@ -5,7 +5,7 @@ use Rattle.std.proofs.Math.Nat.{mul-le-mul}
 use Rattle.std.specs.Int.{int_min, int_max}
 use Rattle.outward_interval.specs.Ends.{EndsBelow, AreEnds, AreLeastEnds}
 use Rattle.flux_moments.specs.Limits.{EndsAtMost}
-use Rattle.flux_moments.proofs.QuotientSizes.{floor-size, ceiling-size}
+use Rattle.plane_clip.proofs.QuotientSizes.{floor-size, ceiling-size}
 
 pub at_most_wider : (m n : ℕ) {lo hi : ℤ} → m ≤ n → EndsAtMost m lo hi → EndsAtMost n lo hi
 at_most_wider m n h e = record { low = omega (arith, h, e.low); high = omega (arith, h, e.high) }

@@ -10,13 +10,12 @@ use Rattle.exact_algebra.proofs.Products.{rounded-width}
 use Rattle.exact_algebra.proofs.Ring.{ring}
 use Rattle.exact_algebra.proofs.Span.{positive-unit}
 use Rattle.exact_algebra.proofs.Whole.{whole, whole-add, whole-sub, whole-mul, whole-≼, nonnegative-whole}
-use Rattle.hull_model.specs.declared.node.Node.{Node}
 use Rattle.outward_interval.specs.Ends.{AreEnds, AreLeastEnds}
 use Rattle.outward_interval.specs.declared.span.Span.{Span}
 use Rattle.outward_interval.specs.Widths.{unit_of, units, IsNarrow, IsNear}
 use Rattle.outward_interval.proofs.Narrow.{nonnegative-unit_of, narrow-wider, near-wider, narrow-sum, near-sum, narrow-difference, near-difference, narrow-negative, near-negative, near-from, rounded, near-rounded, narrow-rescaled, near-rescaled}
 use Rattle.flux_moments.specs.Limits.{EndsAtMost}
-use Rattle.flux_moments.specs.Sizes.{BoxSize, HasSize, distance, Reaches, spread, IsCornerSize, AreSizes}
+use Rattle.flux_moments.specs.Sizes.{BoxSize, HasSize, spread, IsCornerSize, AreSizes}
 use Rattle.flux_moments.specs.declared.plane_box.PlaneBox.{PlaneBox}
 
 -- ---- levels at a place between the first station and the last
@@ -164,55 +163,52 @@ module _ (planes : PlaneBox) (b : BoxSize) (is : HasSize planes b) where
   pub nonnegative_level : sign b.level ≢ below
   nonnegative_level = nonnegative_reach planes.a1 planes.a2 planes.levels.aft is.aft_level
 
-  module _ (h : Fraction) (node : Node) (reached : Reaches b h node) where
-    near_enough : distance node ≼ h
-    near_enough = order_from fractions (b.level ∷ distance node ∷ h ∷ []) ((unit, var 0 :+ var 1, var 2) ∷ (unit, number 0, var 0) ∷ [])
+  -- a corner so far from the centreplane and so high, together
+  module _ (h far : Fraction) (reached : b.level ⊕ far ≼ h) where
+    near_enough : far ≼ h
+    near_enough = order_from fractions (b.level ∷ far ∷ h ∷ []) ((unit, var 0 :+ var 1, var 2) ∷ (unit, number 0, var 0) ∷ [])
         (at_most reached (at_most (Order.nought-≼ fractions nonnegative_level) no_more)) (var 1) (var 2) refl
 
-    -- the spans of a corner from those of the level, the height and the side
-    module _ (level height depth side middle : Span 20)
+    -- the spans of the corner from those of the level, the height and the side, which are r wider than its place makes them
+    module _ (r s : Fraction) (wide : spread b h ⊕ r ≼ s ⊕ units 20 2) (level height depth side middle : Span 20)
         (level_width : IsNarrow 20 (b.rise ⊕ units 20 2) level.lo level.hi) (level_reach : IsNear 20 (b.level ⊕ units 20 1) level.lo level.hi)
-        (height_width : IsNarrow 20 (b.turn ⊗ distance node ⊕ units 20 2) height.lo height.hi)
-        (height_reach : IsNear 20 (distance node ⊕ units 20 1) height.lo height.hi) where
+        (height_width : IsNarrow 20 (b.turn ⊗ far ⊕ r) height.lo height.hi)
+        (height_reach : IsNear 20 (far ⊕ units 20 1) height.lo height.hi) where
       abbrev values : List Fraction
-      values = b.rise ∷ b.turn ∷ b.level ∷ distance node ∷ h ∷ units 20 1 ∷ units 20 2 ∷ units 20 4 ∷ unit_of 20 ∷ []
+      values = b.rise ∷ b.turn ∷ b.level ∷ far ∷ h ∷ units 20 1 ∷ units 20 2 ∷ units 20 4 ∷ unit_of 20 ∷ r ∷ s ∷ []
 
-      pub depth_narrow : AreEnds (level.lo -ℤ height.hi) (level.hi -ℤ height.lo) depth.lo depth.hi → IsNarrow 20 (spread b h ⊕ units 20 4) depth.lo depth.hi
-      depth_narrow e = narrow-wider wide (narrow-difference e level_width height_width)
-        where
-          wide : (b.rise ⊕ units 20 2) ⊕ (b.turn ⊗ distance node ⊕ units 20 2) ≼ spread b h ⊕ units 20 4
-          wide = order_from fractions values ((var 1, var 3, var 4) ∷ (unit :+ unit, var 6, number 2 :* var 8) ∷ (opposite unit, var 7, number 4 :* var 8) ∷ [])
-              (scaled nonnegative_turn near_enough (equal refl (equal refl no_more))) ((var 0 :+ var 6) :+ (var 1 :* var 3 :+ var 6))
-              ((var 0 :+ var 1 :* var 4) :+ var 7) refl
+      wider : (b.rise ⊕ units 20 2) ⊕ (b.turn ⊗ far ⊕ r) ≼ s ⊕ units 20 4
+      wider = order_from fractions values ((var 1, var 3, var 4) ∷ (unit, (var 0 :+ var 1 :* var 4) :+ var 9, var 10 :+ var 6)
+          ∷ (unit :+ unit, var 6, number 2 :* var 8) ∷ (opposite unit, var 7, number 4 :* var 8) ∷ [])
+          (scaled nonnegative_turn near_enough (at_most wide (equal refl (equal refl no_more)))) ((var 0 :+ var 6) :+ (var 1 :* var 3 :+ var 9))
+          (var 10 :+ var 7) refl
 
-      pub middle_narrow : AreEnds (level.lo +ℤ height.lo) (level.hi +ℤ height.hi) middle.lo middle.hi → IsNarrow 20 (spread b h ⊕ units 20 4)
-          middle.lo middle.hi
-      middle_narrow e = narrow-wider wide (narrow-sum e level_width height_width)
-        where
-          wide : (b.rise ⊕ units 20 2) ⊕ (b.turn ⊗ distance node ⊕ units 20 2) ≼ spread b h ⊕ units 20 4
-          wide = order_from fractions values ((var 1, var 3, var 4) ∷ (unit :+ unit, var 6, number 2 :* var 8) ∷ (opposite unit, var 7, number 4 :* var 8) ∷ [])
-              (scaled nonnegative_turn near_enough (equal refl (equal refl no_more))) ((var 0 :+ var 6) :+ (var 1 :* var 3 :+ var 6))
-              ((var 0 :+ var 1 :* var 4) :+ var 7) refl
+      pub depth_narrow : AreEnds (level.lo -ℤ height.hi) (level.hi -ℤ height.lo) depth.lo depth.hi → IsNarrow 20 (s ⊕ units 20 4) depth.lo depth.hi
+      depth_narrow e = narrow-wider wider (narrow-difference e level_width height_width)
 
-      far : (b.level ⊕ units 20 1) ⊕ (distance node ⊕ units 20 1) ≼ h ⊕ units 20 2
-      far = order_from fractions values ((unit, var 2 :+ var 3, var 4) ∷ (unit :+ unit, var 5, number 1 :* var 8)
+      pub middle_narrow : AreEnds (level.lo +ℤ height.lo) (level.hi +ℤ height.hi) middle.lo middle.hi → IsNarrow 20 (s ⊕ units 20 4) middle.lo middle.hi
+      middle_narrow e = narrow-wider wider (narrow-sum e level_width height_width)
+
+      reach : (b.level ⊕ units 20 1) ⊕ (far ⊕ units 20 1) ≼ h ⊕ units 20 2
+      reach = order_from fractions values ((unit, var 2 :+ var 3, var 4) ∷ (unit :+ unit, var 5, number 1 :* var 8)
           ∷ (opposite unit, var 6, number 2 :* var 8) ∷ [])
           (at_most reached (equal refl (equal refl no_more))) ((var 2 :+ var 5) :+ (var 3 :+ var 5)) (var 4 :+ var 6) refl
 
       pub depth_near : AreEnds (level.lo -ℤ height.hi) (level.hi -ℤ height.lo) depth.lo depth.hi → IsNear 20 (h ⊕ units 20 2) depth.lo depth.hi
-      depth_near e = near-wider far (near-difference e level_reach height_reach)
+      depth_near e = near-wider reach (near-difference e level_reach height_reach)
 
       pub middle_near : AreEnds (level.lo +ℤ height.lo) (level.hi +ℤ height.hi) middle.lo middle.hi → IsNear 20 (h ⊕ units 20 2) middle.lo middle.hi
-      middle_near e = near-wider far (near-sum e level_reach height_reach)
+      middle_near e = near-wider reach (near-sum e level_reach height_reach)
 
-      side_narrow : IsNarrow 20 (b.turn ⊗ distance node ⊕ units 20 2) side.lo side.hi → IsNarrow 20 (spread b h ⊕ units 20 4) side.lo side.hi
-      side_narrow n = narrow-wider (order_from fractions values ((var 1, var 3, var 4) ∷ (unit, number 0, var 0) ∷ (unit, var 6, number 2 :* var 8)
+      side_narrow : IsNarrow 20 (b.turn ⊗ far ⊕ r) side.lo side.hi → IsNarrow 20 (s ⊕ units 20 4) side.lo side.hi
+      side_narrow n = narrow-wider (order_from fractions values ((var 1, var 3, var 4) ∷ (unit, (var 0 :+ var 1 :* var 4) :+ var 9, var 10 :+ var 6)
+          ∷ (unit, number 0, var 0) ∷ (unit, var 6, number 2 :* var 8)
           ∷ (opposite unit, var 7, number 4 :* var 8) ∷ (number 2, number 0, var 8) ∷ [])
-          (scaled nonnegative_turn near_enough (at_most (Order.nought-≼ fractions nonnegative_rise)
-          (equal refl (equal refl (scaled (Order.nonnegative-number fractions 2) (Order.nought-≼ fractions (nonnegative-unit_of 20)) no_more)))))
-          (var 1 :* var 3 :+ var 6) ((var 0 :+ var 1 :* var 4) :+ var 7) refl) n
+          (scaled nonnegative_turn near_enough (at_most wide (at_most (Order.nought-≼ fractions nonnegative_rise)
+          (equal refl (equal refl (scaled (Order.nonnegative-number fractions 2) (Order.nought-≼ fractions (nonnegative-unit_of 20)) no_more))))))
+          (var 1 :* var 3 :+ var 9) (var 10 :+ var 7) refl) n
 
-      side_near : IsNear 20 (distance node ⊕ units 20 1) side.lo side.hi → IsNear 20 (h ⊕ units 20 2) side.lo side.hi
+      side_near : IsNear 20 (far ⊕ units 20 1) side.lo side.hi → IsNear 20 (h ⊕ units 20 2) side.lo side.hi
       side_near n = near-wider (order_from fractions values ((unit, var 3, var 4) ∷ (unit, var 5, number 1 :* var 8)
           ∷ (opposite unit, var 6, number 2 :* var 8) ∷ (unit, number 0, var 8) ∷ [])
           (at_most near_enough (equal refl (equal refl (at_most (Order.nought-≼ fractions (nonnegative-unit_of 20)) no_more)))) (var 3 :+ var 5)
@@ -220,8 +216,7 @@ module _ (planes : PlaneBox) (b : BoxSize) (is : HasSize planes b) where
 
       pub corner_size : AreEnds (level.lo -ℤ height.hi) (level.hi -ℤ height.lo) depth.lo depth.hi → AreEnds (level.lo +ℤ height.lo)
           (level.hi +ℤ height.hi) middle.lo middle.hi
-          → IsNarrow 20 (b.turn ⊗ distance node ⊕ units 20 2) side.lo side.hi → IsNear 20 (distance node ⊕ units 20 1) side.lo side.hi → IsCornerSize
-          (spread b h) h depth side middle
+          → IsNarrow 20 (b.turn ⊗ far ⊕ r) side.lo side.hi → IsNear 20 (far ⊕ units 20 1) side.lo side.hi → IsCornerSize s h depth side middle
       corner_size e g n m = record {
         depth_width = depth_narrow e;
         depth_reach = depth_near e;

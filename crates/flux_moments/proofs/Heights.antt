@@ -20,7 +20,7 @@ use Rattle.hull_model.specs.declared.node.Node.{Node}
 use Rattle.hull_model.specs.Waterplane.{Waterplane, Position, height, side_distance}
 use Rattle.outward_interval.proofs.Quotients.{le-times}
 use Rattle.outward_interval.specs.Ends.{EndsBelow, AreEnds, AreLeastEnds}
-use Rattle.flux_moments.proofs.QuotientSizes.{times_size}
+use Rattle.plane_clip.proofs.QuotientSizes.{times_size}
 use Rattle.flux_moments.specs.Limits.{EndsAtMost}
 use Rattle.flux_moments.specs.Planes.{HasDirectionIn, cosine, sine}
 

@@ -16,7 +16,7 @@ use Rattle.exact_algebra.proofs.Span.{ContainsFraction}
 use Rattle.exact_algebra.proofs.Whole.{whole, whole-add, whole-sub, whole-mul, whole-≼, positive-whole, nonnegative-whole}
 use Rattle.exact_algebra.proofs.WholeNumbers.{integers}
 use Rattle.hull_model.proofs.Magnitudes.{fits_64}
-use Rattle.flux_moments.proofs.QuotientSizes.{times_size}
+use Rattle.plane_clip.proofs.QuotientSizes.{times_size}
 use Rattle.hull_model.specs.Body.{IsWithin}
 use Rattle.hull_model.specs.Waterplane.{Waterplane, level_at}
 use Rattle.outward_interval.specs.Kept.{IsSpan}

@@ -25,7 +25,7 @@ use Rattle.hull_polyhedron.proofs.WholeHull.{central_law}
 use Rattle.flux_moments.specs.Columns.{face_at, columns_volume, columns_mx, columns_mv, columns_mu, lid_parts}
 
 -- what a span holds of a multiple, it holds of the number once it is divided
-divided : (F n : ℕ) {lo hi : ℤ} {x : Fraction} → 0 < n → ContainsFraction F lo hi ((x ⊗ whole (pos n)) ⊗ inverse (whole (pos n))) → ContainsFraction F lo hi x
+pub divided : (F n : ℕ) {lo hi : ℤ} {x : Fraction} → 0 < n → ContainsFraction F lo hi ((x ⊗ whole (pos n)) ⊗ inverse (whole (pos n))) → ContainsFraction F lo hi x
 divided F n {lo} {hi} {x} h c = subst (λ y. ContainsFraction F lo hi y) same c
   where
     same : (x ⊗ whole (pos n)) ⊗ inverse (whole (pos n)) ≡ x

@@ -6,7 +6,7 @@ use Rattle.std.specs.Int.{int_min, int_max}
 use Rattle.exact_algebra.specs.Span.{IsFloor, IsCeiling}
 use Rattle.exact_algebra.proofs.Products.{least_of, greatest_of}
 use Rattle.outward_interval.specs.Ends.{EndsBelow, ProductsBelow, AreEnds, AreLeastEnds, least_product, greatest_product}
-pub use Rattle.flux_moments.proofs.QuotientSizes.{floor-size, ceiling-size}
+pub use Rattle.plane_clip.proofs.QuotientSizes.{floor-size, ceiling-size}
 use Rattle.flux_moments.specs.Limits.{EndsAtMost, EndsLess}
 
 pub product_less : (M N : ℕ) (a c : ℤ) → unsigned_abs a < M → unsigned_abs c < N → unsigned_abs (a *ℤ c) < M * N

@@ -21,7 +21,7 @@ use Rattle.flux_moments.specs.Planes.{IsIn}
 use Rattle.flux_moments.specs.declared.lid_sums.LidSums.{LidSums}
 use Rattle.flux_moments.specs.declared.plane_box.PlaneBox.{PlaneBox}
 use Rattle.flux_moments.specs.LidWidths.{AreSeenWidths, AreLidWidths}
-use Rattle.flux_moments.proofs.ColumnSums.{IsSumOf, sum-start, all_at, narrow-start, narrow-step, narrow-end}
+use Rattle.flux_moments.proofs.ColumnSums.{one_list, IsSumOf, sum-start, all_at, narrow-start, narrow-step, narrow-end}
 
 module _ (planes : PlaneBox) (first last : ℤ) (faces : List Face) where
   -- a level at which the plane is in the box
@@ -29,19 +29,19 @@ module _ (planes : PlaneBox) (first last : ℤ) (faces : List Face) where
   IsLevel at = IsIn planes (upright at)
 
   pub record AreLidSums (count : ℕ) (sums : LidSums) : Type 0 where
-    pub area : IsSumOf IsLevel (λ at. lid_part at first last (λ p. one) (λ p. one)) 2 (2 ^ 58) faces count sums.area
-    pub sx : IsSumOf IsLevel (λ at. lid_part at first last (λ p. p.x) (λ p. one)) 2 (2 ^ 79) faces count sums.sx
-    pub syy : IsSumOf IsLevel (λ at. lid_part at first last (λ p. p.y) (λ p. p.y)) 2 (2 ^ 100) faces count sums.syy
-    pub sxx : IsSumOf IsLevel (λ at. lid_part at first last (λ p. p.x) (λ p. p.x)) 2 (2 ^ 100) faces count sums.sxx
+    pub area : IsSumOf IsLevel (λ at. lid_part at first last (λ p. one) (λ p. one)) 2 (2 ^ 58) (one_list faces) count sums.area
+    pub sx : IsSumOf IsLevel (λ at. lid_part at first last (λ p. p.x) (λ p. one)) 2 (2 ^ 79) (one_list faces) count sums.sx
+    pub syy : IsSumOf IsLevel (λ at. lid_part at first last (λ p. p.y) (λ p. p.y)) 2 (2 ^ 100) (one_list faces) count sums.syy
+    pub sxx : IsSumOf IsLevel (λ at. lid_part at first last (λ p. p.x) (λ p. p.x)) 2 (2 ^ 100) (one_list faces) count sums.sxx
     pub widths : (d1 d2 half_breadth height : ℤ) → IsLevelBox planes d1 d2 → LieInside half_breadth height faces → AreLidWidths first last d1 d2
         (whole last) (whole half_breadth) (take count faces) sums
 
   pub lid-start : (s : Span 20) → (s.lo ≡ pos 0) × (s.hi ≡ pos 0) → AreLidSums 0 (record { area = s; sx = s; syy = s; sxx = s })
   lid-start s e = record {
-    area = sum-start IsLevel _ 2 (2 ^ 58) faces s e;
-    sx = sum-start IsLevel _ 2 (2 ^ 79) faces s e;
-    syy = sum-start IsLevel _ 2 (2 ^ 100) faces s e;
-    sxx = sum-start IsLevel _ 2 (2 ^ 100) faces s e;
+    area = sum-start IsLevel _ 2 (2 ^ 58) (one_list faces) s e;
+    sx = sum-start IsLevel _ 2 (2 ^ 79) (one_list faces) s e;
+    syy = sum-start IsLevel _ 2 (2 ^ 100) (one_list faces) s e;
+    sxx = sum-start IsLevel _ 2 (2 ^ 100) (one_list faces) s e;
     widths = λ d1 d2 half_breadth height is inside. record {
       area = narrow-start _ faces s e;
       sx = narrow-start _ faces s e;

@@ -4,13 +4,12 @@ use Rattle.exact_algebra.proofs.Fraction.{Fraction, one, ◌⊕◌, ◌⊗◌}
 use Rattle.exact_algebra.proofs.Whole.{whole}
 use Rattle.hull_model.specs.declared.face.Face.{Face}
 use Rattle.hull_model.specs.declared.node.Node.{Node}
-use Rattle.hull_model.specs.Faces.{triangle_of}
 use Rattle.hull_model.specs.Fractions.{sum_over}
-use Rattle.hull_model.specs.TriangleCut.{Triangle}
 use Rattle.hull_model.specs.Waterplane.{Waterplane, Position, position_of, side_distance, upright}
 use Rattle.hull_model.specs.WetMean.{wet_corner, wet_pair, weighted_depth}
-use Rattle.hull_polyhedron.specs.Columns.{triangle_at, depth, middle, column, seen_part}
+use Rattle.hull_polyhedron.specs.Columns.{depth, middle, column, seen_part}
 use Rattle.plane_clip.specs.Enclosure.{CornerDepths, mean_at}
+pub use Rattle.plane_clip.specs.Parts.{face_at}
 
 -- an area times the mean of the depth, where it is above 0, times a function that is linear over the triangle, by the depths and
 -- the function's values at the corners
@@ -26,10 +25,6 @@ abbrev pub square_at : CornerDepths → Fraction → Fraction → Fraction → F
 square_at d u v w =
     ((mean_at (wet_pair 0 0) d ⊗ (u ⊗ u) ⊕ mean_at (wet_pair 1 1) d ⊗ (v ⊗ v)) ⊕ mean_at (wet_pair 2 2) d ⊗ (w ⊗ w))
     ⊕ ((mean_at (wet_pair 0 1) d ⊗ (u ⊗ v) ⊕ mean_at (wet_pair 0 2) d ⊗ (u ⊗ w)) ⊕ mean_at (wet_pair 1 2) d ⊗ (v ⊗ w)) ⊗ whole (pos 2)
-
--- a face among the positions
-abbrev pub face_at : Face → Triangle Position
-face_at f = triangle_at (triangle_of f)
 
 module _ (plane : Waterplane) (first last : ℤ) where
   abbrev pub depth_of : Node → Fraction

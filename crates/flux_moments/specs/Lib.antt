@@ -6,3 +6,5 @@ pub mod Sizes
 pub mod Widths
 pub mod ColumnSizes
 pub mod LidWidths
+pub mod Shared
+pub mod PartSizes

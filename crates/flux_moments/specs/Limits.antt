@@ -1,6 +1,7 @@
 -- How far levels and the ends of spans may lie.
 use Rattle.std.specs.Prelude.{ℕ, ◌^◌, ◌<◌, ◌≤◌, ℤ, ◌≤ℤ◌}
 use Rattle.std.specs.Int.RustNames.{unsigned_abs}
+pub use Rattle.plane_clip.specs.Limits.{EndsAtMost}
 
 -- levels of a box in grid units: ordered, and none above the limit
 pub record AreLevels (a1 a2 f1 f2 : ℤ) : Type 0 where
@@ -10,11 +11,6 @@ pub record AreLevels (a1 a2 f1 f2 : ℤ) : Type 0 where
   pub second : unsigned_abs a2 ≤ 2 ^ 30
   pub third : unsigned_abs f1 ≤ 2 ^ 30
   pub fourth : unsigned_abs f2 ≤ 2 ^ 30
-
--- both ends are at most so many units in magnitude
-pub record EndsAtMost (most : ℕ) (lo hi : ℤ) : Type 0 where
-  pub low : unsigned_abs lo ≤ most
-  pub high : unsigned_abs hi ≤ most
 
 -- both ends are below so many units in magnitude
 pub record EndsLess (bound : ℕ) (lo hi : ℤ) : Type 0 where

@@ -143,7 +143,7 @@ fn times(part: Span<40>, n: i64) -> Span<40>
 }
 
 /// The levels of a box at x.
-fn levels_at(planes: &PlaneBox, way: Way, x: i64) -> Span<20>
+pub(crate) fn levels_at(planes: &PlaneBox, way: Way, x: i64) -> Span<20>
     requires { (way.first ≤ℤ x) × (x ≤ℤ way.last) }
     ensures ends { EndsAtMost (2 ^ 40) result.lo result.hi }
     ensures contains { (plane : Waterplane) → IsIn planes.now plane → ContainsFraction 20 result.lo result.hi (level_at plane way.first way.last (whole x)) }

@@ -61,7 +61,7 @@ pub(crate) fn volume_column(face: &Face, planes: &PlaneBox, way: Way) -> Span<20
 }
 
 /// The integrals over the columns of a triangle with these corners, with a factor for its area.
-fn columns_at(first: &Corner, second: &Corner, third: &Corner, factor: Span<40>) -> Wet
+pub(crate) fn columns_at(first: &Corner, second: &Corner, third: &Corner, factor: Span<40>) -> Wet
     requires factor { EndsLess (3 * 2 ^ 76) factor.lo factor.hi }
     ensures ends { AreColumnEnds 1 result }
     ensures volume { (d : CornerDepths) (a : Fraction) → AreWithin (first.now.depth ∷ second.now.depth ∷ third.now.depth ∷ []) d → ContainsFraction 40 factor.lo factor.hi a → ContainsFraction 20 result.volume.lo result.volume.hi (mean_at wet_depth d ⊗ a) }

@@ -4,13 +4,16 @@
 mod corner;
 mod face_columns;
 mod lid_sums;
+mod part_columns;
 mod plane_box;
 mod sums;
 #[cfg(test)]
 mod tests;
+mod totals;
 mod wet;
 
 pub use lid_sums::{LidSums, lid};
 pub use plane_box::PlaneBox;
 pub use sums::{measure, volume_below};
+pub use totals::part_sums;
 pub use wet::Wet;

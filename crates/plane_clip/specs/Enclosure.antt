@@ -46,10 +46,10 @@ abbrev pub IsNoWider : (F extra : ℕ) → List (Span 20) → Span F → Mean �
 IsNoWider F extra h span mean =
     (whole span.hi ⊖ whole span.lo) ≼ (((mean_at mean (greatest_depths h) ⊖ mean_at mean (least_depths h)) ⊗ whole (pos (2 ^ F))) ⊕ whole (pos extra))
 
--- each span of a list and the mean at its place in another are so related
-abbrev pub Each : {F : ℕ} → (Span F → Mean → Type 0) → List (Span F) → List Mean → Type 0
+-- each element of a list and the one at its place in another, which is as long, are so related
+abbrev pub Each : {A B : Type 0} → (A → B → Type 0) → List A → List B → Type 0
 Each R [] [] = Unit {0}
-Each R (span ∷ spans) (mean ∷ means) = R span mean × Each R spans means
+Each R (x ∷ xs) (y ∷ ys) = R x y × Each R xs ys
 Each R _ _ = ⊥
 
 abbrev pub corner_means : List Mean

@@ -1,2 +1,10 @@
 pub mod Rounded
 pub mod Enclosure
+pub mod Limits
+pub mod Clipped
+pub mod Ways
+pub mod Parts
+pub mod Extents
+pub mod Clips
+pub mod Between
+pub mod SpanFaces

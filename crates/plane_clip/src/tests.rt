@@ -2,6 +2,7 @@
 ghost use Rattle.std.specs.Prelude.{IfSome};
 ghost use Rattle.outward_interval.specs.Ends.{EndsBelow};
 
+mod parts;
 mod rows;
 
 use crate::{WetShare, wet, wet_depths};

@@ -5,6 +5,10 @@ use Rattle.exact_algebra.proofs.Whole.{whole}
 use Rattle.outward_interval.specs.Laws.{difference_contains}
 use Rattle.hull_model.specs.Waterplane.{position_of, height, level_at}
 use Rattle.flux_moments.proofs.Heights.{place_fits}
+use Rattle.exact_algebra.proofs.Fraction.{fractions}
+use Rattle.exact_algebra.proofs.Order as Order
+use Rattle.outward_interval.specs.Widths.{units}
+use Rattle.flux_moments.specs.Sizes.{distance, spread}
 use Rattle.flux_moments.proofs.BoxWidths.{depth_narrow, depth_near}
 use Rattle.flux_moments.proofs.LevelEnds.{depth_same}
 use Rattle.flux_moments.proofs.corner.depth_of.Goals as goal
@@ -22,7 +26,7 @@ pub returns-clause-narrow : goal.returns-clause-narrow
 returns-clause-narrow c b h is reached =
     let level = c.levels_at in
     let high = c.height_of in
-    depth_narrow c.args.planes.now b is h c.args.node reached level.result high.result c.sub.result c.sub.result c.sub.result
+    depth_narrow c.args.planes.now b is h (distance c.args.node) reached (units 20 2) (spread b h) (Order.≼_refl fractions _) level.result high.result c.sub.result c.sub.result c.sub.result
     (level.ensures.narrow b.rise is.aft is.fore) (level.ensures.near b.level is.aft_level is.fore_level)
     (high.ensures.narrow b.turn is.cosine is.sine) high.ensures.near c.sub.ensures
 
@@ -30,7 +34,7 @@ pub returns-clause-near : goal.returns-clause-near
 returns-clause-near c b h is reached =
     let level = c.levels_at in
     let high = c.height_of in
-    depth_near c.args.planes.now b is h c.args.node reached level.result high.result c.sub.result c.sub.result c.sub.result
+    depth_near c.args.planes.now b is h (distance c.args.node) reached (units 20 2) (spread b h) (Order.≼_refl fractions _) level.result high.result c.sub.result c.sub.result c.sub.result
     (level.ensures.narrow b.rise is.aft is.fore) (level.ensures.near b.level is.aft_level is.fore_level)
     (high.ensures.narrow b.turn is.cosine is.sine) high.ensures.near c.sub.ensures
 

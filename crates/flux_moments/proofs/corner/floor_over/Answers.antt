@@ -3,7 +3,7 @@ use Rattle.std.proofs.lemmas.Int.{ints, to_z-of_z}
 use Rattle.std.specs.Int.{w64}
 use mir.Val.{SFits}
 use Rattle.outward_interval.proofs.Quotients.{floor_by_division}
-use Rattle.flux_moments.proofs.QuotientSizes.{floor-size}
+use Rattle.plane_clip.proofs.QuotientSizes.{floor-size}
 use Rattle.flux_moments.proofs.corner.floor_over.Goals as goal
 
 pub returns-clause-floor : goal.returns-clause-floor

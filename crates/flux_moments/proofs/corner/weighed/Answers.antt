@@ -3,7 +3,7 @@ use Rattle.std.proofs.lemmas.Int.{ints, to_z-of_z}
 use Rattle.std.specs.Int.{w64}
 use mir.Val.{SFits}
 use Rattle.hull_model.proofs.Magnitudes.{fits_64}
-use Rattle.flux_moments.proofs.QuotientSizes.{times_size}
+use Rattle.plane_clip.proofs.QuotientSizes.{times_size}
 use Rattle.flux_moments.proofs.corner.weighed.Goals as goal
 
 pub returns-clause-small : goal.returns-clause-small

@@ -2,7 +2,7 @@ use Rattle.std.proofs.Common.{◌∙◌, ◌+◌, unsigned_abs, subst}
 use Rattle.exact_algebra.proofs.Whole.{whole}
 use Rattle.hull_polyhedron.specs.Between.{IsBetween}
 use Rattle.flux_moments.specs.Sizes.{Reaches, spread, doubled_area}
-use Rattle.flux_moments.proofs.FaceAreas.{three_corners}
+use Rattle.plane_clip.proofs.FaceSizes.{three_corners}
 use Rattle.exact_algebra.proofs.Fraction.{Fraction}
 use Rattle.exact_algebra.proofs.Span.{ContainsFraction}
 use Rattle.hull_model.specs.Waterplane.{side_distance}

@@ -2,7 +2,7 @@ use Rattle.std.proofs.Common.{◌+◌, ◌*◌, ◌^◌, [], ◌∷◌, get_or, 
 use Rattle.hull_model.specs.WetMean.{weighted_depth}
 use Rattle.outward_interval.specs.Laws.{sum_contains}
 use Rattle.plane_clip.specs.Enclosure.{EnclosesMean, IsNoWider, weighted_means}
-use Rattle.flux_moments.proofs.FaceColumns.{each_at}
+use Rattle.plane_clip.proofs.EachLists.{each_at}
 use Rattle.flux_moments.proofs.DepthEnds.{volume_ends}
 use Rattle.flux_moments.proofs.ProductEnds.{products_fit, less, at_most_sum, at_most_fits}
 use Rattle.flux_moments.specs.Wets.{IsSum, AreEndsAtMost}

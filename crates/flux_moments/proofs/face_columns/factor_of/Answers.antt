@@ -4,7 +4,8 @@ use Rattle.std.specs.Int.{w64}
 use mir.Val.{SFits}
 use Rattle.hull_model.proofs.Magnitudes.{fits_64}
 use Rattle.outward_interval.specs.Laws.{sum_contains, negative_contains}
-use Rattle.flux_moments.proofs.FaceAreas.{areas_below, sum_within, opposite_below}
+use Rattle.plane_clip.proofs.FaceSizes.{areas_below}
+use Rattle.flux_moments.proofs.FaceAreas.{sum_within, opposite_below}
 use Rattle.flux_moments.proofs.BoxWidths.{multiple-near, factor-narrow, factor-near}
 use Rattle.flux_moments.proofs.face_columns.factor_of.Goals as goal
 

@@ -6,7 +6,7 @@ use Rattle.flux_moments.proofs.DepthEnds.{volume_ends}
 use Rattle.flux_moments.proofs.ProductEnds.{products_fit, less}
 use Rattle.flux_moments.specs.Sizes.{Reaches, spread, doubled_area}
 use Rattle.flux_moments.proofs.BoxWidths.{column_sizes}
-use Rattle.flux_moments.proofs.FaceAreas.{three_corners}
+use Rattle.plane_clip.proofs.FaceSizes.{three_corners}
 use Rattle.flux_moments.proofs.FaceWidths.{volume_narrow}
 use Rattle.flux_moments.proofs.face_columns.volume_column.Goals as goal
 

@@ -3,7 +3,8 @@ use Rattle.std.proofs.lemmas.Int.{ints, to_z-of_z}
 use Rattle.std.specs.Int.{w64}
 use mir.Val.{SFits}
 use Rattle.hull_model.proofs.Magnitudes.{fits_64}
-use Rattle.flux_moments.proofs.FaceAreas.{areas_below, turned_area, turned_below}
+use Rattle.plane_clip.proofs.FaceSizes.{areas_below}
+use Rattle.flux_moments.proofs.FaceAreas.{turned_area, turned_below}
 use Rattle.flux_moments.proofs.lid_sums.area_from_above.Goals as goal
 
 pub overflow_sub-result : goal.overflow_sub-result

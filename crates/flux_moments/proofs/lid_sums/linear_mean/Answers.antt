@@ -4,7 +4,7 @@ use Rattle.std.specs.Int.{w64}
 use mir.Val.{SFits}
 use Rattle.hull_model.specs.WetMean.{wet_corner}
 use Rattle.plane_clip.specs.Enclosure.{EnclosesMean, IsNoWider, corner_means}
-use Rattle.flux_moments.proofs.FaceColumns.{each_at}
+use Rattle.plane_clip.proofs.EachLists.{each_at}
 use Rattle.exact_algebra.proofs.Whole.{whole}
 use Rattle.outward_interval.proofs.Narrow.{narrow-wider}
 use Rattle.flux_moments.proofs.SeenWidths.{corner_narrow, linear-narrow}

@@ -13,7 +13,7 @@ use Rattle.exact_algebra.proofs.Order as Order
 use Rattle.exact_algebra.proofs.Whole.{whole}
 use Rattle.hull_polyhedron.specs.Between.{IsBetween, IsInside}
 use Rattle.outward_interval.specs.Widths.{units}
-use Rattle.flux_moments.proofs.FaceAreas.{three_corners}
+use Rattle.plane_clip.proofs.FaceSizes.{three_corners}
 use Rattle.flux_moments.proofs.BoxWidths.{far_at_most}
 use Rattle.flux_moments.proofs.SeenWidths.{share_is, seen-area, seen-bound, fewer_units, across_at_most, nonnegative_far}
 use Rattle.flux_moments.proofs.lid_sums.seen_part.Goals as goal

@@ -9,7 +9,7 @@ use mir.Val.{SFits}
 use Rattle.hull_model.specs.WetMean.{wet_pair}
 use Rattle.outward_interval.specs.Laws.{sum_contains}
 use Rattle.plane_clip.specs.Enclosure.{EnclosesMean, IsNoWider, pair_means}
-use Rattle.flux_moments.proofs.FaceColumns.{each_at}
+use Rattle.plane_clip.proofs.EachLists.{each_at}
 use Rattle.flux_moments.proofs.ProductEnds.{multiple_fits, multiple_ends, sum_fits, sum_ends}
 use Rattle.flux_moments.proofs.SeenMeans.{square_sum}
 use Rattle.exact_algebra.proofs.Fraction.{◌⊗◌}

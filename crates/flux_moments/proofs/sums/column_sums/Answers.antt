@@ -1,11 +1,11 @@
-use Rattle.std.proofs.Common.{◌*◌, ◌^◌}
+use Rattle.std.proofs.Common.{◌*◌, ◌^◌, arith}
 use Rattle.hull_model.specs.Waterplane.{side_distance}
 use Rattle.hull_polyhedron.specs.Columns.{middle}
 use Rattle.flux_moments.specs.Columns.{column_volume, column_integral}
 use Rattle.flux_moments.specs.Planes.{IsIn}
 use Rattle.exact_algebra.proofs.Whole.{whole}
 use Rattle.flux_moments.specs.Sizes.{spread, doubled_area, volume_part, length_part, height_part}
-use Rattle.flux_moments.proofs.ColumnSums.{narrow-end, sums-start, sums-fit, sums-more, sum-end, sum-ends}
+use Rattle.flux_moments.proofs.ColumnSums.{one_list, narrow-end, sums-start, sums-fit, sums-more, sum-end, sum-ends}
 use Rattle.flux_moments.proofs.sums.column_sums.Goals as goal
 
 pub loop-face-init : goal.loop-face-init
@@ -24,28 +24,28 @@ loop-face-preserved c = sums-more c.args.planes.now c.args.way.first c.args.way.
 
 pub returns-clause-volume : goal.returns-clause-volume
 returns-clause-volume c = sum-end (IsIn c.args.planes.now) (λ plane. column_volume plane c.args.way.first c.args.way.last) 2 (7 * 2 ^ 75)
-    c.args.faces.now c.loop-face.face-index c.loop-face.sums.volume c.loop-face-test.false c.loop-face.invariant.volume
+    (one_list c.args.faces.now) c.loop-face.face-index c.loop-face.sums.volume c.loop-face-test.false c.loop-face.invariant.volume
 
 pub returns-clause-mx : goal.returns-clause-mx
 returns-clause-mx c = sum-end (IsIn c.args.planes.now) (λ plane. column_integral plane c.args.way.first c.args.way.last (λ p. p.x)) 2 (5 * 2 ^ 97)
-    c.args.faces.now c.loop-face.face-index c.loop-face.sums.mx c.loop-face-test.false c.loop-face.invariant.mx
+    (one_list c.args.faces.now) c.loop-face.face-index c.loop-face.sums.mx c.loop-face-test.false c.loop-face.invariant.mx
 
 pub returns-clause-mv : goal.returns-clause-mv
 returns-clause-mv c = sum-end (IsIn c.args.planes.now) (λ plane. column_integral plane c.args.way.first c.args.way.last (side_distance plane)) 2
-    (5 * 2 ^ 95) c.args.faces.now c.loop-face.face-index c.loop-face.sums.mv c.loop-face-test.false c.loop-face.invariant.mv
+    (5 * 2 ^ 95) (one_list c.args.faces.now) c.loop-face.face-index c.loop-face.sums.mv c.loop-face-test.false c.loop-face.invariant.mv
 
 pub returns-clause-mu : goal.returns-clause-mu
 returns-clause-mu c = sum-end (IsIn c.args.planes.now) (λ plane. column_integral plane c.args.way.first c.args.way.last
-    (middle plane c.args.way.first c.args.way.last)) 4 (41 * 2 ^ 95) c.args.faces.now c.loop-face.face-index c.loop-face.sums.mu
+    (middle plane c.args.way.first c.args.way.last)) 4 (41 * 2 ^ 95) (one_list c.args.faces.now) c.loop-face.face-index c.loop-face.sums.mu
     c.loop-face-test.false c.loop-face.invariant.mu
 
 pub returns-clause-ends : goal.returns-clause-ends
 returns-clause-ends c = record {
-  volume = sum-ends (IsIn c.args.planes.now) _ 2 (7 * 2 ^ 75) c.args.faces.now c.loop-face.face-index c.loop-face.sums.volume c.requires.few
+  volume = sum-ends (IsIn c.args.planes.now) _ 2 (7 * 2 ^ 75) (one_list c.args.faces.now) 16383 c.loop-face.face-index c.loop-face.sums.volume (omega (arith, c.requires.few))
       c.loop-face.invariant.volume;
-  mx = sum-ends (IsIn c.args.planes.now) _ 2 (5 * 2 ^ 97) c.args.faces.now c.loop-face.face-index c.loop-face.sums.mx c.requires.few c.loop-face.invariant.mx;
-  mv = sum-ends (IsIn c.args.planes.now) _ 2 (5 * 2 ^ 95) c.args.faces.now c.loop-face.face-index c.loop-face.sums.mv c.requires.few c.loop-face.invariant.mv;
-  mu = sum-ends (IsIn c.args.planes.now) _ 4 (41 * 2 ^ 95) c.args.faces.now c.loop-face.face-index c.loop-face.sums.mu c.requires.few c.loop-face.invariant.mu;
+  mx = sum-ends (IsIn c.args.planes.now) _ 2 (5 * 2 ^ 97) (one_list c.args.faces.now) 16383 c.loop-face.face-index c.loop-face.sums.mx (omega (arith, c.requires.few)) c.loop-face.invariant.mx;
+  mv = sum-ends (IsIn c.args.planes.now) _ 2 (5 * 2 ^ 95) (one_list c.args.faces.now) 16383 c.loop-face.face-index c.loop-face.sums.mv (omega (arith, c.requires.few)) c.loop-face.invariant.mv;
+  mu = sum-ends (IsIn c.args.planes.now) _ 4 (41 * 2 ^ 95) (one_list c.args.faces.now) 16383 c.loop-face.face-index c.loop-face.sums.mu (omega (arith, c.requires.few)) c.loop-face.invariant.mu;
 }
 
 pub returns-clause-widths : goal.returns-clause-widths

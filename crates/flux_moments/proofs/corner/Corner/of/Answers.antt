@@ -5,6 +5,10 @@ use Rattle.exact_algebra.proofs.Whole.{whole}
 use Rattle.outward_interval.specs.Laws.{sum_contains, difference_contains}
 use Rattle.hull_model.specs.Waterplane.{position_of, height, level_at}
 use Rattle.flux_moments.proofs.Heights.{place_fits}
+use Rattle.exact_algebra.proofs.Fraction.{fractions}
+use Rattle.exact_algebra.proofs.Order as Order
+use Rattle.outward_interval.specs.Widths.{units}
+use Rattle.flux_moments.specs.Sizes.{distance, spread}
 use Rattle.flux_moments.proofs.BoxWidths.{corner_size}
 use Rattle.flux_moments.proofs.corner.Corner.of.Goals as goal
 
@@ -33,7 +37,7 @@ pub returns-clause-size : goal.returns-clause-size
 returns-clause-size c b h is reached =
     let level = c.levels_at-level in
     let high = c.height_of-height in
-    corner_size c.args.planes.now b is h c.args.node reached level.result high.result c.sub.result c.side_of.result c.add.result
+    corner_size c.args.planes.now b is h (distance c.args.node) reached (units 20 2) (spread b h) (Order.≼_refl fractions _) level.result high.result c.sub.result c.side_of.result c.add.result
     (level.ensures.narrow b.rise is.aft is.fore) (level.ensures.near b.level is.aft_level is.fore_level)
     (high.ensures.narrow b.turn is.cosine is.sine) high.ensures.near
     c.sub.ensures c.add.ensures (c.side_of.ensures.narrow b.turn is.cosine is.sine) c.side_of.ensures.near

@@ -1,0 +1,4 @@
+pub mod Growth
+pub mod LostColumns
+pub mod LeftValues
+pub mod OneProof

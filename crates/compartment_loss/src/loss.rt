@@ -1,0 +1,49 @@
+// What flooded slabs leave.
+ghost use Rattle.std.specs.Prelude.{◌≡◌, ◌≤◌, true, List, length, IfOk};
+ghost use Rattle.exact_algebra.proofs.Span.{ContainsFraction};
+ghost use Rattle.hull_model.specs.declared.station.Station.{Station};
+ghost use Rattle.hull_model.specs.Body.{IsHull};
+ghost use Rattle.hull_model.specs.Flooded.{volume_left, mx_left, mv_left, mu_left};
+ghost use Rattle.hull_model.specs.Slabs.{are_apart};
+ghost use Rattle.hull_model.specs.Waterplane.{Waterplane};
+ghost use Rattle.hull_polyhedron.specs.FacesOf.{AreFacesOf};
+ghost use Rattle.flux_moments.specs.Planes.{IsIn};
+
+use crate::FloodedHull;
+use crate::parts::push_slab;
+use exact_fraction::Memory;
+use flux_moments::{PlaneBox, Wet, measure, part_sums};
+use hull_model::Slab;
+use hull_polyhedron::Faces;
+use std::alloc::Global;
+
+/// The hull with slabs flooded. The parts of the faces in the slabs are found here, once for all planes.
+pub fn flood<'a>(alloc: Global, faces: &'a Faces, slabs: &[Slab]) -> Result<FloodedHull<'a>, Memory>
+    requires few { length slabs.now ≤ 64 }
+    requires apart { are_apart slabs.now ≡ true }
+    ensures { IfOk result (λ f. (f.faces.now ≡ faces.now) × (f.slabs.items ≡ slabs.now)) }
+{
+    let mut parts = Vec::new(alloc);
+    let mut rest = slabs;
+    while let [slab, after @ ..] = rest {
+        push_slab(&mut parts, faces.list(), slab)?;
+        rest = after;
+    }
+    let slabs = Vec::from_slice(alloc, slabs)?;
+    Ok(FloodedHull {
+        faces,
+        slabs,
+        parts,
+    })
+}
+
+/// Encloses what is left, where the slabs are flooded, of the volume and the integrals of x, of the distance towards the
+/// low side and of the height, of the part of the hull that lies below a plane, for each plane of the box.
+pub fn left(flood: &FloodedHull, planes: &PlaneBox) -> Wet
+    ensures volume { (stations : List Station) → IsHull stations → AreFacesOf stations flood.now.faces.now → (plane : Waterplane) → IsIn planes.now plane → ContainsFraction 20 result.volume.lo result.volume.hi (volume_left plane stations flood.now.slabs.items) }
+    ensures mx { (stations : List Station) → IsHull stations → AreFacesOf stations flood.now.faces.now → (plane : Waterplane) → IsIn planes.now plane → ContainsFraction 20 result.mx.lo result.mx.hi (mx_left plane stations flood.now.slabs.items) }
+    ensures mv { (stations : List Station) → IsHull stations → AreFacesOf stations flood.now.faces.now → (plane : Waterplane) → IsIn planes.now plane → ContainsFraction 20 result.mv.lo result.mv.hi (mv_left plane stations flood.now.slabs.items) }
+    ensures mu { (stations : List Station) → IsHull stations → AreFacesOf stations flood.now.faces.now → (plane : Waterplane) → IsIn planes.now plane → ContainsFraction 20 result.mu.lo result.mu.hi (mu_left plane stations flood.now.slabs.items) }
+{
+    measure(flood.faces, planes) - part_sums(flood.faces, &flood.parts, planes)
+}
