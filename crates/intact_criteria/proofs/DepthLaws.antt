@@ -29,18 +29,18 @@ unfolding depth_under
 depth_is plane o = ring fraction_ring (plane.a ∷ whole (pos plane.c) ∷ whole (pos plane.s) ∷ inverse (whole (pos plane.r)) ∷ whole o.z ∷ whole o.y ∷ [])
     (var 0 :- ((var 1 :* var 3) :* var 4 :- (var 2 :* var 3) :* var 5)) (var 0 :- (var 1 :* var 4 :- var 2 :* var 5) :* var 3) refl
 
-not_below : (z : ℤ) → pos 0 ≤ℤ z → sign (whole z) ≢ below
+pub not_below : (z : ℤ) → pos 0 ≤ℤ z → sign (whole z) ≢ below
 not_below z h = Order.nonnegative_from fractions (Order.≼_trans fractions (Order.≼_same fractions (sym whole-nought)) (whole-≼ h))
 
 -- powers of two among the units
-ten_thirty : whole (pos (2 ^ 10)) ⊗ whole (pos (2 ^ 30)) ≡ whole (pos (2 ^ 20)) ⊗ whole (pos (2 ^ 20))
+pub ten_thirty : whole (pos (2 ^ 10)) ⊗ whole (pos (2 ^ 30)) ≡ whole (pos (2 ^ 20)) ⊗ whole (pos (2 ^ 20))
 ten_thirty = sym (whole-mul (pos (2 ^ 10)) (pos (2 ^ 30))) ∙ whole-mul (pos (2 ^ 20)) (pos (2 ^ 20))
 
-forty : whole (pos (2 ^ 40)) ≡ whole (pos (2 ^ 20)) ⊗ whole (pos (2 ^ 20))
+pub forty : whole (pos (2 ^ 40)) ≡ whole (pos (2 ^ 20)) ⊗ whole (pos (2 ^ 20))
 forty = whole-mul (pos (2 ^ 20)) (pos (2 ^ 20))
 
 -- d 2^30 - c z + s y among the fractions
-whole_depth : (d c s y z : ℤ) → whole (((d *ℤ pos (2 ^ 30)) -ℤ (c *ℤ z)) +ℤ (s *ℤ y)) ≡ (whole d ⊗ whole (pos (2 ^ 30)) ⊖ whole c ⊗ whole z) ⊕ whole s ⊗ whole y
+pub whole_depth : (d c s y z : ℤ) → whole (((d *ℤ pos (2 ^ 30)) -ℤ (c *ℤ z)) +ℤ (s *ℤ y)) ≡ (whole d ⊗ whole (pos (2 ^ 30)) ⊖ whole c ⊗ whole z) ⊕ whole s ⊗ whole y
 whole_depth d c s y z = whole-add ((d *ℤ pos (2 ^ 30)) -ℤ (c *ℤ z)) (s *ℤ y)
     ∙ ap₂ (λ a b. a ⊕ b) (whole-sub (d *ℤ pos (2 ^ 30)) (c *ℤ z) ∙ ap₂ (λ a b. a ⊖ b) (whole-mul d (pos (2 ^ 30))) (whole-mul c z)) (whole-mul s y)
 

@@ -28,3 +28,5 @@ pub mod MarksLaws
 pub mod VerdictLaws
 pub mod Decided
 pub mod SmallArms
+pub mod NarrowLaws
+pub mod DepthWidths

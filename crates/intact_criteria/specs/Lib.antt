@@ -19,4 +19,5 @@ pub mod Marks
 pub mod Right
 pub mod Open
 pub mod Bounds
+pub mod Narrow
 pub mod Decided

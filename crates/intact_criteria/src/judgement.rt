@@ -13,6 +13,7 @@ ghost use Rattle.intact_criteria.specs.C6 as C6;
 ghost use Rattle.intact_criteria.specs.Brackets.{ByBrackets};
 ghost use Rattle.intact_criteria.specs.Bounds.{IsBoundedVerdict};
 ghost use Rattle.intact_criteria.specs.Marks.{AreFindings, IsFoundOnBoth};
+ghost use Rattle.intact_criteria.specs.Narrow.{IsAsNarrowAsRead};
 ghost use Rattle.intact_criteria.specs.Open.{IsOpenIfUndecided};
 ghost use Rattle.intact_criteria.specs.Readings.{readings_of, leaks_of, separation_at, gz_at, ends_of};
 ghost use Rattle.intact_criteria.specs.Right.{AreRightMarks, IsRightVerdict};
@@ -47,6 +48,7 @@ pub fn judge(arms: &ArmTable, upright: &UprightRow, openings: &[Opening]) -> Fin
     ensures marks { (hull : List Station) (loading : Loading) (water : Water) → HoldFigures hull loading water arms.now upright.now → AreRightMarks hull loading water arms.now upright.now openings.now result.marks }
     ensures verdict { (hull : List Station) (loading : Loading) (water : Water) → HoldFigures hull loading water arms.now upright.now → IsRightVerdict hull loading water arms.now upright.now openings.now result.verdict }
     ensures undecided { ByBrackets (λ brackets. IsOpenIfUndecided (readings_of brackets arms.now upright.now openings.now) result.verdict) }
+    ensures narrow { ByBrackets (λ brackets. IsAsNarrowAsRead (readings_of brackets arms.now upright.now openings.now) result.verdict) }
     ensures bounded { IsBoundedVerdict result.verdict }
 {
     // This read tells the prover that there is a row for each degree.

@@ -1,5 +1,6 @@
 // Theorems about the definitions, each the contract of a function with an empty body.
 ghost use Rattle.intact_criteria.specs.Decided.{MarksAreDecided};
+ghost use Rattle.intact_criteria.specs.Narrow.{DepthsAreNarrow};
 ghost use Rattle.intact_criteria.specs.Tables.{RowsSuffice};
 
 /// Two findings by the rules on the same tables have the same marks.
@@ -11,4 +12,11 @@ pub fn marks_are_decided()
 #[tactic(auto, using(crate::proofs::Rows::rows_suffice))]
 pub fn rows_suffice()
     ensures { RowsSuffice }
+{}
+
+/// The depth interval of an opening is no wider than the drafts lie apart, the turn of cosine and sine times the opening's
+/// distances, and 2^-16 mm.
+#[tactic(auto, using(crate::proofs::DepthWidths::depths_are_narrow))]
+pub fn depths_are_narrow()
+    ensures { DepthsAreNarrow }
 {}

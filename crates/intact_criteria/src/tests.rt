@@ -61,6 +61,7 @@ fn is_small_arm(arm: &Arm) -> bool
 fn are_small(arms: &ArmTable) -> bool
     ensures { IsTrue result → AreSmallArms arms.now }
 {
+    let _upright = arm_at(arms, 0);
     for degree in 0..91 {
         if !is_small_arm(arm_at(arms, degree)) {
             return false;

@@ -4,6 +4,7 @@ use Rattle.intact_criteria.specs.Figures.{figures_of}
 use Rattle.intact_criteria.specs.Finding.{mark_of}
 use Rattle.intact_criteria.specs.Readings.{readings_of}
 use Rattle.intact_criteria.proofs.Sizes.{depths_small}
+use Rattle.intact_criteria.proofs.NarrowLaws.{open_is_narrow}
 use Rattle.intact_criteria.proofs.SmallArms.{gz_small, separation_small}
 use Rattle.intact_criteria.proofs.Soundness.{AreSmall}
 use Rattle.intact_criteria.proofs.MarksLaws.{found_right}
@@ -47,3 +48,8 @@ returns-clause-bounded c =
     rw c.verdict_of.ensures (findings_bounded (readings_of c.degree_brackets-brackets.result c.args.arms.now c.args.upright.now c.args.openings.now)
     c.first-c1.result c.second-c2.result c.third-c3.result c.fourth-c4.result c.fifth-c5.result c.sixth-c6.result
     (record { first = c.first-c1.ensures; second = c.second-c2.ensures; third = c.third-c3.ensures; fourth = c.fourth-c4.ensures; fifth = c.fifth-c5.ensures; sixth = c.sixth-c6.ensures }) small)
+
+pub returns-clause-narrow : goal.returns-clause-narrow
+returns-clause-narrow c =
+    let open_so = returns-clause-undecided c in
+    (open_so.0, open_so.1, open_is_narrow (readings_of open_so.0 c.args.arms.now c.args.upright.now c.args.openings.now) c.verdict_of.result open_so.2)
