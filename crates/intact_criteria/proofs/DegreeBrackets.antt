@@ -1,9 +1,9 @@
 -- The bracket of a degree is one: its directions and its spans of cosine and sine.
-use Rattle.std.proofs.Common.{◌≡◌, refl, sym, ◌∙◌, ap, subst, inl, inr, ℕ, ◌+◌, ◌*◌, ◌^◌, ◌<◌, ◌≤◌, ℤ, pos, ◌*ℤ◌, ◌≤ℤ◌, arith}
+use Rattle.std.proofs.Common.{◌≡◌, sym, ◌∙◌, ap, inl, inr, ℕ, ◌+◌, ◌≤◌, ℤ, ◌≤ℤ◌, arith}
 use Rattle.std.proofs.lemmas.Int.{ints}
 use Rattle.angle_bounds.specs.declared.bracket.Bracket.{Bracket}
 use Rattle.angle_bounds.specs.Degrees.{AreBracketNumbers, IsNumberOf, c_of, s_of, r_of}
-use Rattle.angle_bounds.specs.Directions.{IsBracket, IsDirectionWithin}
+use Rattle.angle_bounds.specs.Directions.{IsDirectionWithin}
 use Rattle.exact_algebra.specs.Span.{IsFloor, IsCeiling}
 use Rattle.exact_algebra.proofs.Division.{floor_is_greatest, ceiling_is_least}
 use Rattle.hull_model.specs.LevelPlanes.{Direction}

@@ -1,5 +1,5 @@
 -- What is shown of an undecided criterion is as narrow as what is read.
-use Rattle.std.proofs.Common.{◌≡◌, refl, ℕ, zero, suc, ◌<◌, ◌≤◌, Bool, true, false, ◌==◌, if◌then◌else◌, ℤ, pos, ◌≤ℤ◌, ◌<ℤ◌, arith}
+use Rattle.std.proofs.Common.{◌≡◌, ℕ, zero, suc, ◌<◌, ◌≤◌, Bool, true, false, ◌==◌, if◌then◌else◌, ℤ, pos, ◌≤ℤ◌, ◌<ℤ◌, arith}
 use Rattle.std.proofs.lemmas.Int.{ints}
 use Rattle.exact_algebra.proofs.Fraction.{Fraction, ◌⊕◌}
 use Rattle.outward_interval.specs.declared.span.Span.{Span}
@@ -11,7 +11,7 @@ use Rattle.intact_criteria.specs.declared.finding.Side.{Side}
 use Rattle.intact_criteria.specs.declared.finding.Verdict.{Verdict}
 use Rattle.intact_criteria.specs.declared.finding.Verdict.TheVariants as verdict
 use Rattle.intact_criteria.specs.AreaToFlooding.{area_between, difference}
-use Rattle.intact_criteria.specs.Narrow.{Widths, IsNoWider, AreNarrow, width_of, IsNarrowShown, IsNarrowIfUndecided, IsAsNarrowAsRead}
+use Rattle.intact_criteria.specs.Narrow.{Widths, IsNoWider, AreNarrow, width_of, IsNarrowShown, IsAsNarrowAsRead}
 use Rattle.intact_criteria.specs.Open.{interval_of, limit_of, IsOpen, IsOpenIfUndecided}
 use Rattle.intact_criteria.specs.Readings.{Ends, Readings, HasEnds, nothing}
 

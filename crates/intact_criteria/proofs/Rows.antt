@@ -1,5 +1,4 @@
 -- The tables of dynamic_lever are small, and hold the figures of the hull.
-use Rattle.draft_bracket.specs.DraftBracket.{IsOfDegree}
 use Rattle.intact_criteria.specs.Tables.{RowsSuffice}
 use Rattle.intact_criteria.proofs.DegreeBrackets.{lies_in_same}
 

@@ -4,9 +4,7 @@ use Rattle.intact_criteria.specs.Readings.{Ends, Readings, HasEnds}
 use Rattle.intact_criteria.specs.Open.{IsOpen, interval_of, limit_of}
 use Rattle.intact_criteria.specs.Bounds.{IsBounded}
 use Rattle.intact_criteria.specs.declared.finding.Shown.{Shown}
-use Rattle.outward_interval.specs.Ends.{EndsBelow}
-use Rattle.outward_interval.specs.declared.span.Span.{Span}
-use Rattle.std.proofs.Common.{◌≡◌, inl, inr, ℕ, ◌<◌, pos, ◌<ℤ◌, arith, ℤ, ◌≤ℤ◌, ◌^◌, unsigned_abs, sym, subst, ◌≤◌}
+use Rattle.std.proofs.Common.{◌≡◌, inl, inr, ℕ, pos, ◌<ℤ◌, arith, ℤ, ◌≤ℤ◌, sym, subst, ◌≤◌}
 use Rattle.std.proofs.lemmas.Int.{ints}
 use Rattle.intact_criteria.specs.declared.finding.Shown.TheVariants as shown
 use Rattle.intact_criteria.proofs.ReadRows.{ends_below}

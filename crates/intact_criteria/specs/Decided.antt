@@ -1,6 +1,5 @@
 -- The rules leave no choice.
-use Rattle.std.specs.Prelude.{◌≡◌, ℤ, List}
-use Rattle.angle_bounds.specs.declared.bracket.Bracket.{Bracket}
+use Rattle.std.specs.Prelude.{◌≡◌, List}
 use Rattle.hull_model.specs.declared.opening.Opening.{Opening}
 use Rattle.dynamic_lever.specs.declared.rows.ArmTable.{ArmTable}
 use Rattle.dynamic_lever.specs.declared.rows.UprightRow.{UprightRow}

@@ -9,9 +9,8 @@ pub enum Side {
     Starboard,
 }
 
-/// What decides a mark: an interval at a degree, the levers at two degrees, or the depth of an opening.
-///
-/// Intervals are in mm or mm·rad. Openings count from 1.
+/// What decides a mark: the interval of an area in mm·rad, of GZ or of GM in mm, at a degree; the levers at two degrees,
+/// before 25 and from 25 on; or the depth in mm of an opening at a degree. Openings count from 1.
 #[derive(Clone, Copy, Debug, PartialEq, Eq)]
 pub enum Shown {
     Interval {

@@ -33,13 +33,17 @@ use angle_bounds::Bracket;
 use dynamic_lever::{ArmTable, UprightRow};
 use hull_model::Opening;
 
-/// The marks of the six criteria and the verdict, on the tables that `arms` and `upright` give, for at most 64 openings.
+/// The marks of the six criteria of the 2008 Intact Stability Code, part A, 2.2.1 to 2.2.4, and the verdict, on the
+/// tables that `arms` and `upright` give, for at most 64 openings.
 ///
-/// A choice takes one level plane for each degree from 0 to 90 and one for the upright ship, between the drafts of their rows. A
-/// mark is Holds only where the criterion holds at every choice, and Fails only where it fails at every choice, to port and to
-/// starboard; else it is Unsure, and what the verdict shows of an undecided criterion leaves it open. The verdict is Fail with the
-/// first criterion that fails; where none does, Undecided with the first that is unsure; else Pass. The ends of the tables' spans
-/// lie below 2^95 in magnitude, and those of what is shown below 2^96.
+/// A choice takes one level plane for each degree from 0 to 90 and one for the upright ship, between the drafts of
+/// their rows. A mark is Holds only where the criterion holds at every choice, to port and to starboard, and Fails only
+/// where it doesn't at any; else it is Unsure. The verdict is Fail with the first criterion whose mark is Fails; where
+/// none is, Undecided with the first that is Unsure; else Pass. It shows what decides on the first side that has the
+/// mark, port before starboard; what it shows of an undecided criterion leaves it open.
+///
+/// The ends of the tables' spans lie below 2^95 in magnitude, as those of `arms` and `upright` do; the ends of what is
+/// shown lie below 2^96.
 pub fn judge(arms: &ArmTable, upright: &UprightRow, openings: &[Opening]) -> Findings
     requires openings { length openings.now ≤ 64 }
     requires arms { AreSmallArms arms.now }

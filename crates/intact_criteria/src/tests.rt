@@ -16,8 +16,8 @@ use hull_model::Opening;
 use outward_interval::Span;
 use std::process::Abort;
 
-// Levels that leave an opening at the centreplane, 5 m above the base, dry at each degree up to 40, wet at each, or neither for
-// certain at 33 degrees.
+// Levels that leave an opening at the centreplane, 5 m above the base, dry at each degree up to 40, wet at each, or
+// neither for certain at 33 degrees.
 const DRY: Drafts = Drafts {
     d1: 1024000,
     d2: 1024000,

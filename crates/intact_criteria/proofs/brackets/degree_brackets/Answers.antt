@@ -8,7 +8,7 @@ pub returns : goal.returns
 returns c = record {
   count = c.from_fn.ensures.items.long;
   each = λ k bracket there.
-    let few : k < 91 = omega (arith, slice_get_within c.from_fn.result k bracket there, c.from_fn.ensures.items.long) in
-    let called = c.from_fn.ensures.items.at k bracket few in
-    subst (IsOfDegree k) (get_or_from_slice_get c.from_fn.result k bracket bracket there) (search rules);
+      let few : k < 91 = omega (arith, slice_get_within c.from_fn.result k bracket there, c.from_fn.ensures.items.long) in
+      let called = c.from_fn.ensures.items.at k bracket few in
+      subst (IsOfDegree k) (get_or_from_slice_get c.from_fn.result k bracket bracket there) (search rules);
 }

@@ -1,4 +1,4 @@
-use Rattle.std.proofs.Common.{◌≡◌, refl, length, rules}
+use Rattle.std.proofs.Common.{refl}
 use Rattle.intact_criteria.specs.declared.finding.Side.{Side}
 use Rattle.intact_criteria.specs.Figures.{figures_of}
 use Rattle.intact_criteria.specs.Finding.{mark_of}
