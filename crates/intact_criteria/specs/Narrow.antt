@@ -1,19 +1,31 @@
 -- How wide what is shown of an undecided criterion may be, by bounds of what is read of the tables.
-use Rattle.std.specs.Prelude.{◌≡◌, ⊤, ℕ, zero, suc, ◌+◌, ◌≤◌, ◌-ℤ◌}
+use Rattle.std.specs.Prelude.{◌≡◌, ⊤, ℕ, zero, suc, ◌+◌, ◌≤◌, ◌-ℤ◌, Some, slice_get}
 use Rattle.std.specs.Int.{int_max}
 use Rattle.exact_algebra.proofs.Fraction.{Fraction, nought, ◌⊕◌, ◌⊗◌}
 use Rattle.exact_algebra.proofs.Whole.{whole}
 use Rattle.angle_bounds.specs.declared.bracket.Bracket.{Bracket}
 use Rattle.hull_model.specs.declared.opening.Opening.{Opening}
+use Rattle.hull_model.specs.declared.water.Water.{Water}
+use Rattle.hull_polyhedron.specs.declared.faces.Faces.{Faces}
 use Rattle.outward_interval.specs.Widths.{unit_of, IsNarrow}
 use Rattle.plane_clip.specs.Enclosure.{in_unit}
+use Rattle.flux_moments.specs.declared.plane_box.PlaneBox.{PlaneBox}
+use Rattle.flux_moments.specs.Widths.{size_of, reach_of, volume_bound}
+use Rattle.draft_bracket.specs.DraftBracket.{IsBoxFrom}
 use Rattle.draft_bracket.specs.declared.drafts.Drafts.{Drafts}
+use Rattle.loading_sheet.specs.declared.loading.Loading.{Loading}
+use Rattle.dynamic_lever.specs.Levers.{lever_bound}
+use Rattle.dynamic_lever.specs.Rows.{kb_bound, bm_bound}
+use Rattle.dynamic_lever.specs.declared.rows.Arm.{Arm}
+use Rattle.dynamic_lever.specs.declared.rows.ArmTable.{ArmTable}
+use Rattle.dynamic_lever.specs.declared.rows.UprightRow.{UprightRow}
 use Rattle.intact_criteria.specs.declared.finding.Shown.{Shown}
 use Rattle.intact_criteria.specs.declared.finding.Shown.TheVariants as shown
 use Rattle.intact_criteria.specs.declared.finding.Side.{Side}
 use Rattle.intact_criteria.specs.declared.finding.Verdict.{Verdict}
 use Rattle.intact_criteria.specs.declared.finding.Verdict.TheVariants as verdict
-use Rattle.intact_criteria.specs.Readings.{Ends, Readings, depth_of}
+use Rattle.intact_criteria.specs.Readings.{Ends, Readings, ends_of, gz_at, separation_at, depth_of}
+use Rattle.intact_criteria.specs.Tables.{AreRowsOf}
 
 -- bounds of the widths of GZ and separation by the degree, of GM, and of a depth by the place of the opening and the degree
 pub record Widths : Type 0 where
@@ -72,3 +84,16 @@ depth_width bracket drafts o =
 
 abbrev pub DepthsAreNarrow : Type 0
 DepthsAreNarrow = (bracket : Bracket) (drafts : Drafts) (o : Opening) → IsNoWider (depth_width bracket drafts o) (depth_of bracket drafts o)
+
+-- ---- tables of dynamic_lever
+abbrev pub lever_width : Faces → Loading → Water → PlaneBox → Fraction
+lever_width faces loading water planes = lever_bound loading water (reach_of faces planes ⊗ volume_bound faces planes) (size_of planes).turn
+
+-- over the box of a row's planes, levers and separations are no wider than `arms` promises, and GM than `upright` does
+pub record RowsAreNarrow : Type 0 where
+  pub levers : (faces : Faces) (loading : Loading) (water : Water) (arms : ArmTable) (upright : UprightRow) (rows : AreRowsOf faces loading water arms upright)
+      (k : ℕ) (arm : Arm) (row : slice_get arms.rows k ≡ Some arm) (planes : PlaneBox) → IsBoxFrom (rows.rows k arm row).0 arm.drafts.d1 arm.drafts.d2 planes → (side : Side)
+      → IsNoWider (lever_width faces loading water planes) (gz_at arms side k) × IsNoWider (lever_width faces loading water planes) (separation_at arms side k)
+  pub gm : (faces : Faces) (loading : Loading) (water : Water) (arms : ArmTable) (upright : UprightRow) (rows : AreRowsOf faces loading water arms upright)
+      (planes : PlaneBox) → IsBoxFrom rows.row.0 upright.drafts.d1 upright.drafts.d2 planes
+      → IsNoWider (kb_bound faces loading water planes ⊕ bm_bound faces loading water upright.drafts.d1 upright.drafts.d2) (ends_of upright.gm)

@@ -37,10 +37,11 @@ use hull_model::Opening;
 /// tables that `arms` and `upright` give, for at most 64 openings.
 ///
 /// A choice takes one level plane for each degree from 0 to 90 and one for the upright ship, between the drafts of
-/// their rows. A mark is Holds only where the criterion holds at every choice, to port and to starboard, and Fails only
-/// where it doesn't at any; else it is Unsure. The verdict is Fail with the first criterion whose mark is Fails; where
-/// none is, Undecided with the first that is Unsure; else Pass. It shows what decides on the first side that has the
-/// mark, port before starboard; what it shows of an undecided criterion leaves it open.
+/// their rows. A criterion holds at a choice where it holds to port and to starboard. Its mark is Holds only where it
+/// holds at every choice, and Fails only where it holds at none; else the mark is Unsure. The verdict is Fail with the
+/// first criterion whose mark is Fails; where none is, Undecided with the first that is Unsure; else Pass. It shows what
+/// decides on the first side that has the mark, port before starboard; what it shows of an undecided criterion leaves it
+/// open.
 ///
 /// The ends of the tables' spans lie below 2^95 in magnitude, as those of `arms` and `upright` do; the ends of what is
 /// shown lie below 2^96.

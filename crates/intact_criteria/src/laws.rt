@@ -1,6 +1,6 @@
 // Theorems about the definitions, each the contract of a function with an empty body.
 ghost use Rattle.intact_criteria.specs.Decided.{MarksAreDecided};
-ghost use Rattle.intact_criteria.specs.Narrow.{DepthsAreNarrow};
+ghost use Rattle.intact_criteria.specs.Narrow.{DepthsAreNarrow, RowsAreNarrow};
 ghost use Rattle.intact_criteria.specs.Tables.{RowsSuffice};
 
 /// Two findings by the rules on the same tables have the same marks.
@@ -19,4 +19,10 @@ pub fn rows_suffice()
 #[tactic(auto, using(crate::proofs::DepthWidths::depths_are_narrow))]
 pub fn depths_are_narrow()
     ensures { DepthsAreNarrow }
+{}
+
+/// The levers, separations and GM of the tables that `arms` and `upright` give are no wider than these promise.
+#[tactic(auto, using(crate::proofs::Rows::rows_are_narrow))]
+pub fn rows_are_narrow()
+    ensures { RowsAreNarrow }
 {}

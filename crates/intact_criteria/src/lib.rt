@@ -24,4 +24,4 @@ mod tests;
 
 pub use finding::{Finding, Findings, Found, Mark, Shown, Side, Verdict};
 pub use judgement::judge;
-pub use laws::{depths_are_narrow, marks_are_decided, rows_suffice};
+pub use laws::{depths_are_narrow, marks_are_decided, rows_are_narrow, rows_suffice};
