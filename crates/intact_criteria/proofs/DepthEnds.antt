@@ -11,7 +11,7 @@ use Rattle.exact_algebra.proofs.Division.{floor_of-floor, ceiling_of-ceiling, â‰
 use Rattle.outward_interval.proofs.Quotients.{le-times}
 use Rattle.outward_interval.specs.Kept.{IsSpan}
 use Rattle.outward_interval.specs.declared.span.Span.{Span}
-use Rattle.flux_moments.proofs.QuotientSizes.{times_size}
+use Rattle.plane_clip.proofs.QuotientSizes.{times_size}
 use Rattle.hull_model.specs.declared.opening.Opening.{Opening}
 use Rattle.draft_bracket.specs.declared.drafts.Drafts.{Drafts}
 use Rattle.intact_criteria.specs.Readings.{HasEnds, depth_of, least_depth, greatest_depth}
