@@ -4,3 +4,4 @@ pub mod CrossLines
 pub mod Listed
 pub mod Numbers
 pub mod Parts
+pub mod StabilityLines

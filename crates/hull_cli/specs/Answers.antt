@@ -1,9 +1,13 @@
 -- What a run decides by the words and the files.
 use Rattle.std.specs.Prelude.{ℕ, ◌≡◌, ◌≤◌, ◌<◌, ◌⊎◌, List, Some, None, length}
+use Rattle.job_reader.specs.declared.job.Item.{Item}
 use Rattle.job_reader.specs.declared.job.Job.{Job}
+use Rattle.loading_sheet.specs.Centre.{displaced}
+use Rattle.loading_sheet.specs.Loads.{IsLoadingOf, IsFaultOf as IsLoadFaultOf}
+use Rattle.loading_sheet.specs.declared.loading.Loading.{Loading}
 use Rattle.job_reader.specs.Job.{IsJobOfFile}
 use Rattle.offset_reader.specs.Offsets.{hull_of}
-use Rattle.draft_bracket.specs.DraftBracket.{six_of}
+use Rattle.draft_bracket.specs.DraftBracket.{IsTooHeavy, six_of}
 use Rattle.hull_model.specs.declared.station.Station.{Station}
 use Rattle.hull_model.specs.declared.water.Water.{Water}
 use Rattle.hull_report.specs.Spelling.{lines_text}
@@ -35,9 +39,16 @@ abbrev pub DueToMasses : List Station → Water → List ℕ → Refusal → Typ
 DueToMasses hull water masses (refusal.Heavy mass six) = IsFirstTooHeavy hull water masses mass × (six ≡ six_of hull)
 DueToMasses hull water masses _ = ⊥
 
+-- this refusal is due to the items, which make no loading, or to their loading, which is too heavy for the hull
+abbrev pub DueToItems : List Station → Water → List Item → Refusal → Type 0
+DueToItems hull water items (refusal.Load fault) = IsLoadFaultOf items fault
+DueToItems hull water items (refusal.Heavy mass six) = (loading : Loading) × IsLoadingOf items loading × (mass ≡ loading.mass) × IsTooHeavy hull (displaced loading water) × (six ≡ six_of hull)
+DueToItems hull water items _ = ⊥
+
 -- this refusal is due to what the command finds in the job and the hull
 abbrev pub DueToCommand : Command → Job → List Station → Refusal → Type 0
 DueToCommand command.Cross job hull cause = DueToMasses hull job.water job.masses cause
+DueToCommand command.Stability job hull cause = DueToItems hull job.water job.items cause
 DueToCommand _ job hull cause = ⊥
 
 -- this refusal is due to what a command with these files asks for; the offset file counts only where the job was read,

@@ -5,6 +5,7 @@ pub mod Lists
 pub mod Report
 pub mod Requests
 pub mod Sections
+pub mod Stability
 pub mod Stops
 pub mod Tables
 pub mod Verdicts

@@ -3,6 +3,7 @@ use Rattle.std.specs.Prelude.{ℕ, ◌≡◌, ◌≤◌, ⊤, List, length}
 use Rattle.draft_bracket.specs.DraftBracket.{IsTooHeavy, six_of}
 use Rattle.hull_model.specs.declared.station.Station as model
 use Rattle.hull_model.specs.declared.water.Water.{Water}
+use Rattle.job_reader.specs.declared.job.Item.{Item}
 use Rattle.job_reader.specs.declared.job.Job.{Job}
 use Rattle.loading_sheet.specs.Centre.{displaced_by}
 use Rattle.hull_report.specs.declared.line.Command.{Command}
@@ -10,7 +11,7 @@ use Rattle.report_run.specs.declared.stop.Refusal.TheVariants.{Heavy, Station}
 use Rattle.report_run.specs.declared.stop.Stop.{Stop}
 use Rattle.report_run.specs.declared.stop.Stop.TheVariants as stop
 use Rattle.report_run.specs.Shelves.{Shelves}
-use Rattle.hull_cli.specs.Answers.{Due, DueTo, DueToCommand, DueToMasses, LeftUnread, UnreadBy}
+use Rattle.hull_cli.specs.Answers.{Due, DueTo, DueToCommand, DueToItems, DueToMasses, LeftUnread, UnreadBy}
 use Rattle.hull_cli.specs.Words.{Form}
 
 -- Want of memory may come at any time.
@@ -46,6 +47,12 @@ abbrev pub StopsCurves : List model.Station → Water → List ℕ → Stop → 
 StopsCurves hull water masses (stop.Refused cause) = DueToMasses hull water masses cause
 StopsCurves hull water masses (stop.Unread _) = ⊥
 StopsCurves hull water masses stop.NoMemory = ⊤
+
+-- why nothing is said of the stability of a hull with these items
+abbrev pub StopsStability : List model.Station → Water → List Item → Stop → Type 0
+StopsStability hull water items (stop.Refused cause) = DueToItems hull water items cause
+StopsStability hull water items (stop.Unread _) = ⊥
+StopsStability hull water items stop.NoMemory = ⊤
 
 -- why there is no report of this command on a job and a hull
 abbrev pub StopsTables : Command → Job → List model.Station → Stop → Type 0

@@ -16,6 +16,7 @@ use Rattle.hull_report.specs.declared.line.Line.TheVariants as line
 use Rattle.hull_cli.specs.Curves.{AreCrossLines}
 use Rattle.hull_cli.specs.Lists.{Joined, Pairwise}
 use Rattle.hull_cli.specs.Sections.{AreSectionLines}
+use Rattle.hull_cli.specs.Stability.{AreStabilityLines}
 
 -- a span that may be absent, and by which power of ten its unit is smaller than that of its figure
 pub record Column : Type 0 where
@@ -70,4 +71,5 @@ abbrev pub AreTableLines : Command → List Station → Job → List Line → Ty
 AreTableLines command.Hydro hull job lines = AreHydroLines hull job.water job.drafts lines
 AreTableLines command.Bonjean hull job lines = AreBonjeanLines hull job.drafts lines
 AreTableLines command.Cross hull job lines = AreCrossLines hull job.water job.masses lines
+AreTableLines command.Stability hull job lines = AreStabilityLines hull job lines
 AreTableLines _ hull job lines = ⊥

@@ -32,17 +32,19 @@ abbrev pub section_form : List ℕ → Option ℕ → Option ℕ → Option Form
 section_form offsets (Some station) (Some draft) = if is_name_word offsets then Some (section offsets station draft) else None
 section_form offsets _ _ = None
 
--- the commands that are given tables of a job's drafts or displacements, by their words
+-- the commands that are given a job, by their words
 abbrev pub table_command : List ℕ → Option Command
 table_command word =
     if bytes_eq word (codes "hydro") then Some command.Hydro else
     if bytes_eq word (codes "bonjean") then Some command.Bonjean else
-    if bytes_eq word (codes "cross") then Some command.Cross else None
+    if bytes_eq word (codes "cross") then Some command.Cross else
+    if bytes_eq word (codes "stability") then Some command.Stability else None
 
 abbrev pub HasTables : Command → Type 0
 HasTables command.Hydro = ⊤
 HasTables command.Bonjean = ⊤
 HasTables command.Cross = ⊤
+HasTables command.Stability = ⊤
 HasTables _ = ⊥
 
 -- COMMAND JOB OFFSETS

@@ -3,9 +3,12 @@
 
 mod commands;
 mod cross;
+mod findings;
 mod hull_line;
 mod hydro;
+mod levers;
 mod section;
+mod stability;
 mod tables;
 mod verdict;
 mod words;

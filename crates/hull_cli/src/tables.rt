@@ -1,4 +1,4 @@
-// Tables over the drafts or displacements of a job.
+// Tables of what a job asks for.
 ghost use Rattle.std.specs.Prelude.{◌≡◌, ◌≤◌, ◌+◌, ◌*◌, ◌^◌, true, [], ◌∷◌, ◌++◌, IfOk, IfErr, length};
 ghost use Rattle.std.specs.List.{list_all};
 ghost use Rattle.hull_model.specs.Body.{IsHull};
@@ -15,6 +15,7 @@ use crate::cross::cross_lines;
 use crate::hull_line::hull_line;
 use crate::hydro::hydro_lines;
 use crate::section::section_lines;
+use crate::stability::stability_lines;
 use exact_fraction::Memory;
 use hull_model::Hull;
 use hull_polyhedron::{Faces, faces_of, six_volume};
@@ -67,6 +68,7 @@ fn table_lines(
         Command::Hydro => Ok(hydro_lines(alloc, faces, &job.water, drafts)?),
         Command::Bonjean => Ok(bonjean_lines(alloc, hull, drafts)?),
         Command::Cross => cross_lines(alloc, faces, &job.water, job.masses.as_slice()),
+        Command::Stability => stability_lines(alloc, faces, job),
         _ => unreachable!(),
     }
 }

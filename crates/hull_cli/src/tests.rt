@@ -2,6 +2,7 @@ mod cargo;
 mod curves;
 mod refusals;
 mod reports;
+mod verdicts;
 mod words;
 
 ghost use Rattle.std.specs.Prelude.{◌≢◌};

@@ -29,7 +29,7 @@ pub(crate) enum Request<'a> {
         station: u32,
         draft: u32,
     },
-    /// `COMMAND JOB OFFSETS`: tables over the drafts or displacements of the job.
+    /// `COMMAND JOB OFFSETS`: tables of what the job asks for.
     Tables {
         command: Command,
         job: &'a str,
@@ -84,7 +84,7 @@ fn tables_request<'a>(command: &str, job: &'a str, offsets: &'a str) -> Option<R
     })
 }
 
-// The command of this word, where it is given tables of a job's drafts or displacements.
+// The command of this word, where it is given a job.
 fn table_command(word: &str) -> Option<Command>
     ensures command { result ≡ spec.table_command word.now }
     ensures served { IfSome result HasTables }
@@ -93,6 +93,7 @@ fn table_command(word: &str) -> Option<Command>
         "hydro" => Some(Command::Hydro),
         "bonjean" => Some(Command::Bonjean),
         "cross" => Some(Command::Cross),
+        "stability" => Some(Command::Stability),
         _ => None,
     }
 }

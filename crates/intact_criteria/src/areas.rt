@@ -10,8 +10,9 @@ use crate::readings::separation;
 use dynamic_lever::ArmTable;
 use outward_interval::Span;
 
-/// The area under GZ on a side from one degree to another, in mm·rad: the difference of the separations.
-pub(crate) fn area(arms: &ArmTable, side: Side, from: u32, to: u32) -> Span<20>
+/// The area under GZ on a side from one degree to another, both at most 90, in mm·rad: the difference of the separations,
+/// and 0 from a degree to itself. The ends lie below 2^96 in magnitude.
+pub fn area(arms: &ArmTable, side: Side, from: u32, to: u32) -> Span<20>
     requires from { from ≤ 90 }
     requires to { to ≤ 90 }
     requires small { AreSmallArms arms.now }

@@ -9,8 +9,8 @@ use dynamic_lever::{Arm, ArmTable};
 use hull_model::Opening;
 use outward_interval::Span;
 
-/// The row of a degree.
-pub(crate) fn arm_at(arms: &ArmTable, degree: u32) -> &Arm
+/// The row of a degree, at most 90.
+pub fn arm_at(arms: &ArmTable, degree: u32) -> &Arm
     requires { degree ≤ 90 }
     ensures row { slice_get arms.now.rows degree ≡ Some result.now }
     ensures count { length arms.now.rows ≡ 91 }
@@ -36,10 +36,11 @@ fn of_side(side: Side, spans: &[Span<20>; 2]) -> Span<20>
     }
 }
 
-/// GZ of a degree on a side, in mm.
-pub(crate) fn gz(arms: &ArmTable, side: Side, degree: u32) -> Span<20>
+/// GZ of a degree, at most 90, on a side, in mm.
+pub fn gz(arms: &ArmTable, side: Side, degree: u32) -> Span<20>
     requires { degree ≤ 90 }
-    ensures { HasEnds (gz_at arms.now side degree) result }
+    ensures ends { HasEnds (gz_at arms.now side degree) result }
+    ensures small { AreSmallArms arms.now → EndsBelow 95 result.lo result.hi }
 {
     of_side(side, &arm_at(arms, degree).gz)
 }

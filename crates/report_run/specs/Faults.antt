@@ -5,6 +5,8 @@ use Rattle.offset_reader.specs.declared.fault.OffsetFault.TheVariants as offset
 use Rattle.job_reader.specs.declared.fault.JobFault.{JobFault}
 use Rattle.job_reader.specs.declared.fault.JobFault.TheVariants as job
 use Rattle.job_reader.specs.declared.key.Key.{Key}
+use Rattle.loading_sheet.specs.declared.loading.LoadFault.{LoadFault}
+use Rattle.loading_sheet.specs.declared.loading.LoadFault.TheVariants as load
 use Rattle.job_reader.specs.declared.key.Key.TheVariants.{Top}
 use Rattle.job_reader.specs.Keys.{table_of, word_of}
 
@@ -61,3 +63,7 @@ job_fault_text (job.Twice key entry) = entry_text (codes "twice") key entry
 job_fault_text (job.NotNamed entry) = place_text (codes "notnamed") entry
 job_fault_text (job.Overlap first second) = field_text (codes "overlap") first second
 job_fault_text job.Memory = word_text (codes "memory")
+
+abbrev pub load_fault_text : LoadFault → List ℕ
+load_fault_text load.NoMass = word_text (codes "nomass")
+load_fault_text (load.MassRange sum) = word_text (codes "massrange") ++ number_text sum

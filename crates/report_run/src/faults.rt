@@ -1,10 +1,11 @@
 // What is said of a fault of a file.
 ghost use Rattle.std.specs.Prelude.{◌≡◌, ◌++◌, OnOk, string_bytes};
-ghost use Rattle.report_run.specs.Faults.{word_text, entry_text, key_text, job_fault_text, offset_fault_text};
+ghost use Rattle.report_run.specs.Faults.{word_text, entry_text, key_text, job_fault_text, load_fault_text, offset_fault_text};
 
 use crate::refused::{push_field, push_number, push_place, push_word};
 use exact_fraction::Memory;
 use job_reader::{JobFault, Key};
+use loading_sheet::LoadFault;
 use offset_reader::OffsetFault;
 
 /// Appends the fault's word and its numbers.
@@ -44,6 +45,19 @@ pub(crate) fn push_job_fault(text: &mut String, fault: &JobFault) -> Result<(), 
         JobFault::NotNamed { entry } => push_place(text, "notnamed", entry),
         JobFault::Overlap { first, second } => push_field(text, "overlap", first, second),
         JobFault::Memory => Err(Memory),
+    }
+}
+
+/// Appends the fault's word and its number.
+pub(crate) fn push_load_fault(text: &mut String, fault: &LoadFault) -> Result<(), Memory>
+    ensures { OnOk result (string_bytes text.new ≡ string_bytes text.old ++ load_fault_text fault.now) }
+{
+    match *fault {
+        LoadFault::NoMass => push_word(text, "nomass"),
+        LoadFault::MassRange { sum } => {
+            push_word(text, "massrange")?;
+            push_number(text, sum)
+        }
     }
 }
 

@@ -1,10 +1,11 @@
 // Why there is no report.
 ghost use Rattle.std.specs.Prelude.{◌≡◌, ◌++◌, IfOk, OnOk, string_bytes};
 
-use crate::faults::{push_job_fault, push_offset_fault};
+use crate::faults::{push_job_fault, push_load_fault, push_offset_fault};
 use crate::refused::{push_number, push_place, push_word};
 use exact_fraction::Memory;
 use job_reader::JobFault;
+use loading_sheet::LoadFault;
 use offset_reader::OffsetFault;
 use std::alloc::{AllocError, AllocFailed, Global};
 
@@ -41,6 +42,8 @@ pub enum Refusal {
     Offsets(OffsetFault),
     /// The hull has no station of this number.
     Station(u32),
+    /// The items of the job make no loading.
+    Load(LoadFault),
     /// The ship with this mass in kg is heavier than the water that its whole hull displaces; `six` is six times the hull's
     /// volume in mm³.
     Heavy { mass: u64, six: i128 },
@@ -131,6 +134,10 @@ impl Refusal {
                 push_offset_fault(text, fault)
             }
             Refusal::Station(station) => push_place(text, "station", *station),
+            Refusal::Load(fault) => {
+                push_word(text, "load")?;
+                push_load_fault(text, fault)
+            }
             Refusal::Heavy { mass, six } => {
                 push_word(text, "heavy")?;
                 push_number(text, *mass)?;

@@ -1,6 +1,7 @@
 // Files, the lines in place of a report, and texts that are put, with the stores in memory.
 use crate::{File, Refusal, Status, Stop, put_all, read_hull, read_job_file};
 use desk::{MemShelf, MemSink};
+use loading_sheet::LoadFault;
 use std::alloc::{AllocError, Global};
 use std::test::Fail;
 
@@ -66,6 +67,12 @@ fn each_stop_has_its_line(rt: HostRuntime) -> Result<(), Fail> {
     assert_eq!(rt;
         line_of(alloc, long)?.as_slice(),
         b"refused long job\n".as_slice()
+    );
+    let fault = LoadFault::MassRange { sum: 137438953472 };
+    let load = Some(Stop::Refused(Refusal::Load(fault)));
+    assert_eq!(rt;
+        line_of(alloc, load)?.as_slice(),
+        b"refused load massrange 137438953472\n".as_slice()
     );
     let heavy = Some(Stop::Refused(Refusal::Heavy {
         mass: 20500001,

@@ -1,0 +1,138 @@
+// Lines of marks and of the verdict.
+ghost use Rattle.std.specs.Prelude.{◌≡◌, ◌<◌, ◌≤◌, IfOk, length};
+ghost use Rattle.outward_interval.specs.Ends.{EndsBelow};
+ghost use Rattle.hull_report.specs.Spelling.{AreLines, AreWords, IsLine, call_words, shown_words};
+ghost use Rattle.intact_criteria.specs.Bounds.{IsBounded, IsBoundedVerdict};
+ghost use Rattle.intact_criteria.specs.declared.finding.Shown.TheVariants as shown;
+ghost use Rattle.hull_cli.specs.Stability as spec;
+ghost use Rattle.hull_cli.specs.Stability.{AreMarkLines, IsCallOf, IsMarkLine, IsShownLine, IsVerdictLine, NamesCriterion};
+
+use exact_fraction::Memory;
+use hull_report::{Call, Finding, Line, ShownLine};
+use intact_criteria::{Mark, Shown, Verdict};
+use outward_interval::Span;
+use std::alloc::Global;
+
+/// Decimals of the figures.
+const PLACES: u32 = 6;
+
+/// Of a span in mm, or in mm·rad, the power of ten to m.
+const TO_METRES: u32 = 3;
+
+/// The marks of the six criteria.
+pub(crate) fn mark_lines(alloc: Global, marks: &[Mark; 6]) -> Result<Vec<Line>, Memory>
+    ensures lines { IfOk result (λ lines. AreMarkLines marks.now lines.items) }
+    ensures grammar { IfOk result (λ lines. AreLines lines.items) }
+{
+    let mut lines = Vec::new(alloc);
+    for place in 0..6 {
+        lines.push(mark_line(marks, place))?;
+    }
+    Ok(lines)
+}
+
+fn mark_line(marks: &[Mark; 6], place: usize) -> Line
+    requires { place < 6 }
+    ensures line { IsMarkLine marks.now place result }
+    ensures grammar { IsLine result }
+{
+    Line::Mark {
+        criterion: place as u32 + 1,
+        finding: finding_of(marks[place]),
+    }
+}
+
+fn finding_of(mark: Mark) -> Finding
+    ensures { result ≡ spec.finding_of mark }
+{
+    match mark {
+        Mark::Holds => Finding::Holds,
+        Mark::Fails => Finding::Fails,
+        Mark::Unsure => Finding::Unsure,
+    }
+}
+
+/// The verdict.
+pub(crate) fn verdict_line(verdict: &Verdict) -> Line
+    requires named { NamesCriterion verdict.now }
+    requires bounded { IsBoundedVerdict verdict.now }
+    ensures line { IsVerdictLine verdict.now result }
+    ensures grammar { IsLine result }
+{
+    Line::Verdict {
+        call: call_of(verdict),
+    }
+}
+
+fn call_of(verdict: &Verdict) -> Call
+    requires named { NamesCriterion verdict.now }
+    requires bounded { IsBoundedVerdict verdict.now }
+    ensures words { IsCallOf verdict.now result }
+    ensures grammar { AreWords (call_words result) }
+{
+    match *verdict {
+        Verdict::Pass => Call::Pass,
+        Verdict::Fail {
+            criterion,
+            shown,
+            ..
+        } => Call::Fail {
+            criterion,
+            shown: shown_line(&shown),
+        },
+        Verdict::Undecided {
+            criterion,
+            shown,
+            ..
+        } => Call::Undecided {
+            criterion,
+            shown: shown_line(&shown),
+        },
+    }
+}
+
+fn shown_line(shown: &Shown) -> ShownLine
+    requires { IsBounded shown.now }
+    ensures words { IsShownLine shown.now result }
+    ensures grammar { AreWords (shown_words result) }
+{
+    match *shown {
+        Shown::Interval { degree, span } => interval(degree, span),
+        Shown::Pair { low, high } => pair(low, high),
+        Shown::Leak {
+            opening,
+            degree,
+            span,
+        } => leak(opening, degree, span),
+    }
+}
+
+fn interval(degree: u32, span: Span<20>) -> ShownLine
+    requires { EndsBelow 96 span.lo span.hi }
+    ensures words { IsShownLine (shown.Interval degree span) result }
+    ensures grammar { AreWords (shown_words result) }
+{
+    ShownLine::Interval {
+        degree,
+        figure: span.figure(TO_METRES, PLACES),
+    }
+}
+
+fn pair(low: u32, high: u32) -> ShownLine
+    ensures words { IsShownLine (shown.Pair low high) result }
+    ensures grammar { AreWords (shown_words result) }
+{
+    ShownLine::Pair { low, high }
+}
+
+fn leak(opening: u32, degree: u32, span: Span<20>) -> ShownLine
+    requires { EndsBelow 96 span.lo span.hi }
+    ensures words { IsShownLine (shown.Leak opening degree span) result }
+    ensures grammar { AreWords (shown_words result) }
+{
+    ShownLine::Leak {
+        opening,
+        degree,
+        figure: span.figure(TO_METRES, PLACES),
+    }
+}
