@@ -506,8 +506,68 @@ class YardTables(Room):
         done = self.tool("table_to_offsets.py", "-", *words, stdin=None, input=content)
         self.assertEqual(done.stdout.splitlines()[:4], ["0,5,0", "0,10,1000", "5000,10,0", "5000,20,1000"])
 
+    def lines(self, across, down, cells=("0", "9,5")):
+        """A table with numbers across and down; all cells but those of the first row are the second one."""
+        return table([["", *across], *([one, *[cells[at > 0]] * len(across)] for at, one in enumerate(down))], ";")
+
+    def test_each_axis_has_its_unit(self):
+        metres, numbers, heights = [f"{5 * i},5" for i in range(21)], range(21), range(0, 13000, 1000)
+        for across, down, words, rows, last in [
+            (metres, heights, [], False, "100500,9500,12000"), (metres, heights, [], True, "100500,9500,12000"),
+            (numbers, heights, ["--spacing", "5000"], False, "100000,9500,12000"), (numbers, heights, ["--spacing", "5000"], True, "100000,9500,12000"),
+            (numbers, [0, 1, 3, 6, 9, 12], ["--spacing", "5000"], False, "100000,9500,12000"),
+            (["x = 0 m", "x = 600 m"], ["WL 0 mm", "WL 50 mm"], [], False, "600000,9500,50"),
+        ]:
+            with self.subTest(across=across, words=words, rows=rows):
+                content = self.lines(across, down)
+                if rows:
+                    content = table(zip(*[line.split(";") for line in content.splitlines()]), ";")
+                done = self.tool("table_to_offsets.py", "-", *words, stdin=None, input=content)
+                self.assertEqual((done.returncode, done.stdout.splitlines()[-1:]), (0, [last]), done.stderr)
+
+    def test_the_corner_names_both_axes(self):
+        content = "x (m) / WL (mm);0;1\n0;1;1\n2;1;1\n"
+        done = self.tool("table_to_offsets.py", "-", stdin=None, input=content)
+        self.assertEqual(done.stdout, "0,1000,0\n0,1000,1\n2000,1000,0\n2000,1000,1\n")
+
+    def test_a_hyphen_behind_a_letter_is_no_sign(self):
+        done = self.tool("table_to_offsets.py", "-", stdin=None, input=";X-0;X-5000;X-9000\nWL-0;1;2;3\nWL-1000;1;2;3\n")
+        self.assertEqual(done.stdout.splitlines()[-2:], ["9000,3000,0", "9000,3000,1000"])
+        done = self.tool("table_to_offsets.py", "-", stdin=None, input=";X -5000;X \u22121000;X 9000\nWL 0;1;2;3\nWL 1000;1;2;3\n")
+        self.assertEqual([line.split(",")[0] for line in done.stdout.splitlines()], ["0", "0", "4000", "4000", "14000", "14000"])
+
+    def test_numbers_of_stations_are_asked_for_their_spacing(self):
+        for numbers in (range(21), range(1, 21), ["0", "0,5", *range(1, 10), "9,5", "10"]):
+            done = self.tool("table_to_offsets.py", "-", stdin=None, input=self.lines([f"St. {one}" for one in numbers], range(13)))
+            self.assertEqual((done.returncode, done.stdout), (1, ""))
+            self.assertIn("--spacing", done.stderr)
+            done = self.tool("table_to_offsets.py", "-", "--unit", "m", stdin=None, input=self.lines([f"St. {one}" for one in numbers], range(13)))
+            self.assertEqual(done.returncode, 0)
+            self.assertIn("--spacing", done.stderr)
+
+    def test_tables_that_are_read_in_two_ways(self):
+        for content, words, said in [
+            (self.lines(range(21), range(0, 13000, 1000)), [], "--stations"), (self.lines(range(7), range(7)), ["--spacing", "5000"], "--stations"),
+            (self.lines([0, 50000], [0, 12000], ["900", "1.500"]), [], "part thousands"), (self.lines([0, 50000], [0, 12000], ["900", "1,500"]), [], "part thousands"),
+            (self.lines(["500", "1.000", "1.500"], [0, 1]), [], "part thousands"), (self.lines([0, 50], ["WL-500", "WL0", "WL1000"]), [], "a sign"),
+        ]:
+            with self.subTest(content=content, words=words):
+                done = self.tool("table_to_offsets.py", "-", *words, stdin=None, input=content)
+                self.assertEqual((done.returncode, done.stdout), (1, ""))
+                self.assertIn(said, done.stderr)
+
+    def test_decimals_that_part_no_thousands(self):
+        done = self.tool("table_to_offsets.py", "-", stdin=None, input=self.lines([0, "50000.125"], [0, 12000], ["900", "1200.500"]))
+        self.assertEqual(done.stdout.splitlines(), ["0,900,0", "0,1201,12000", "50000,900,0", "50000,1201,12000"])
+        done = self.tool("table_to_offsets.py", "-", stdin=None, input=self.lines([0, "50"], [0, 12], ["0.000", "9.125"]))
+        self.assertEqual(done.stdout.splitlines()[-1], "50000,9125,12000")
+
+    def test_a_spacing_is_a_length(self):
+        for word in ("0", "-5", "5.0", "x"):
+            self.assertEqual(self.tool("table_to_offsets.py", "-", "--spacing", word).returncode, 2)
+
     def test_tables_that_cannot_be_read(self):
-        for content in ("", "a\n", "x,0,1\n", "x,0,1\n0,1,a\n1,1,1\n", "x,0,1\n0,1,1,1\n1,1,1\n", "x,0,0\n0,1,1\n1,1,1\n", b"PK\x03\x04", 'x,0,1\n"1,500",1,1\n'):
+        for content in ("", "a\n", "x,0,1\n", "x,0,1\n0,1,a\n1,1,1\n", "x,0,1\n0,1,1,1\n1,1,1\n", "x,0,0\n0,1,1\n1,1,1\n", b"PK\x03\x04", 'x,0,1\n"1,500",1,1\n', f"x,0,1\n0,{'1' * 5000},1\n1,1,1\n", f"x,0,{'1' * 400}\n0,1,1\n1,1,1\n", f"x,0,{'a' * 200000}\n"):
             done = self.tool("table_to_offsets.py", self.file("table.csv", content))
             self.assertEqual((done.returncode, done.stdout), (1, ""))
         self.assertEqual(self.tool("table_to_offsets.py", self.room / "none").returncode, 1)
