@@ -95,8 +95,10 @@ def main():
         write_all(tables, given.out)
         return
     names = [given.table] if given.table else list(tables)
-    if len(names) != 1:
-        sys.exit(f"{given.report}: tables {', '.join(names) or 'none'}; choose one with --table, or give --out")
+    if not names:
+        sys.exit(f"{given.report}: no table has rows; has the job drafts or displacements?")
+    if len(names) > 1:
+        sys.exit(f"{given.report}: tables {', '.join(names)}; choose one with --table, or give --out")
     sys.stdout.write(table_text(tables.get(names[0], []), names[0]))
 
 

@@ -46,6 +46,10 @@ SECTIONS = "".join(
     f"section {station} {1000 * station} {draft} [{draft}.000000,{draft}.000000] [0.000000000,0.000000000]\n"
     for draft in (1, 2)
     for station in range(5)
+) + "end 11\n"
+WEDGE = (
+    "hullcert 1 hydro\nhull 3 6\nhydro 5000 [2499.999999,2500.000001] [2562.499998,2562.500002] [-49.999999,-49.999999] - "
+    "[999.999999,1000.000001] - - - - [10.249999,10.250001] -\nend 4\n"
 )
 
 RT = """#!/bin/sh
@@ -409,12 +413,60 @@ class Reports(Room):
         self.assertEqual(self.tool("report_svg.py", self.file("report", REPORT), "--out", self.room / "all").returncode, 0)
         self.assertEqual(len(list((self.room / "all").iterdir())), len(report_svg.HYDRO))
 
+    def test_a_frame_is_higher_than_the_interval_of_one_point(self):
+        sheet = self.sheet(WEDGE)
+        self.assertEqual((sheet.count("h8"), sheet.count(">2500<")), (0, 1))
+        self.assertLess(max(len(text) for text in re.findall(r'text-anchor="end">([^<]*)<', sheet)), len("2499.99"))
+
+    def test_labels_have_room(self):
+        curve = report_svg.Curve("", "", [report_svg.Point(0, (-123456.5, -123456.4), False)])
+        panel = report_svg.Panel(curve, (0, 1, -123456.50001, -123456.49999))
+        widest = max(len(text) for _, text in panel.ticks)
+        self.assertGreater(panel.edge, report_svg.LETTER * widest + 6)
+
+    def test_ticks(self):
+        for low, high in ((-2.7, 92.7), (0.0, 1.0), (-3e-7, 1e-6), (11.99999, 12.00001), (-1, 130)):
+            ticks = report_svg.ticks_of(low, high)
+            self.assertTrue(4 <= len(ticks) <= 11, ticks)
+            within = report_svg.ticks_within(low, high, 392)
+            self.assertLess(len(within) * report_svg.width_of(within), 392)
+
+    def test_the_zero_line_is_whole(self):
+        lines = re.findall(r'stroke="#(888|eee)"', self.sheet("arm 0 1 2 [-1.000000,0.000000] [0.000000,0.000000]\nend 2\n", "--curve", "gz"))
+        self.assertEqual((lines.count("888"), lines[-1]), (1, "888"))
+
+    def test_the_heading_names_the_report(self):
+        path = self.file("a <ship>.txt", REPORT)
+        self.assertIn("hullcert, a &lt;ship&gt;, 3 stations, 6 points", self.tool("report_svg.py", path).stdout)
+
+    def test_a_cut_report_is_drawn_with_a_word(self):
+        for cut in (REPORT.removesuffix("end 6\n"), REPORT.replace("body 120000000000000\n", "")):
+            done = self.tool("report_svg.py", self.file("report", cut))
+            self.assertEqual((done.returncode, done.stdout.count("report has no line end") + done.stdout.count("some were lost")), (0, 1))
+            self.assertEqual(len(done.stderr.splitlines()), 1)
+            self.assertEqual(self.tool("report_csv.py", self.file("report", cut)).stderr, done.stderr)
+        self.assertEqual(self.sheet(REPORT + SECTIONS.replace("\n", "\r\n")).count("<g "), 16)
+
+    def test_a_report_without_rows(self):
+        self.assertIn("has the job drafts", self.tool("report_csv.py", self.file("report", "hullcert 1 hydro\nend 2\n")).stderr)
+
+    def test_the_files_of_a_family_share_a_frame(self):
+        self.tool("report_svg.py", self.file("report", SECTIONS.replace("[2.000000,2.000000]", "[7.000000,7.000000]", 1)), "--out", self.room / "all")
+        texts = [re.findall(r'text-anchor="end">([^<]*)<', path.read_text()) for path in sorted((self.room / "all").iterdir())]
+        self.assertEqual(texts, 5 * [texts[0]])
+
     def test_the_deck_of_the_offsets(self):
         sheet = self.sheet(REPORT, "--offsets", TOP / "examples" / "barge.csv")
-        self.assertEqual(sheet.count('fill="white" stroke='), 8)
+        self.assertEqual((sheet.count('fill="white" stroke='), sheet.count("deck isn't known")), (8, 0))
+        self.assertEqual(self.sheet(REPORT).count("deck isn't known"), 1)
+
+    def test_offsets_of_another_ship(self):
+        for path in (CARGO, self.file("none.csv", "")):
+            done = self.tool("report_svg.py", self.file("report", REPORT), "--offsets", path)
+            self.assertEqual((done.returncode, done.stdout, len(done.stderr.splitlines())), (1, "", 1))
 
     def test_bars_only_where_they_are_seen(self):
-        wide = "hydro 5 [1.000000,2.000000] [1.000000,2.000000] - - [1.000000,2.000000] - - - - [1.000000,2.000000] -\n"
+        wide = "hydro 5 [1.000000,2.000000] [1.000000,2.000000] - - [1.000000,2.000000] - - - - [1.000000,2.000000] -\nend 2\n"
         self.assertEqual(self.sheet(wide, "--curve", "volume").count("h8"), 2)
         self.assertEqual(self.sheet(REPORT, "--curve", "volume").count("h8"), 0)
 
