@@ -25,16 +25,19 @@ import sys
 from fractions import Fraction
 from typing import NamedTuple
 
+sys.dont_write_bytecode = True
+
+import offset_rows  # noqa: E402
+import output  # noqa: E402
+
 AFTER_LETTER = r"[^0-9+-]*[^\W\d_]-"  # a hyphen behind a letter, as in WL-500, is no sign
 CELL = re.compile(rf"(?:{AFTER_LETTER}|[^0-9+-]*)([+-]?(?:[0-9]+(?:\.[0-9]+)?|\.[0-9]+))[^0-9]*\Z")
 HYPHEN = re.compile(rf"{AFTER_LETTER}[0-9.]")
 UNCLEAR = re.compile(r"[0-9]{1,3},[0-9]{3}\Z")
-THOUSANDS = re.compile(r"[+-]?[0-9]{1,3}\.[0-9]{3}\Z")
 NUMBER = re.compile(r"[+-]?(?:[0-9]+\.?[0-9]*|\.[0-9]+)\Z")
 UNIT = re.compile(r"(?<![A-Za-z])(mm|m)\b")
 STATION_WORDS = re.compile(r"\b(st|sta|stn|station|stations|x|frame|frames|fr|section)\b", re.I)
 HEIGHT_WORDS = re.compile(r"\b(wl|w\.l|waterline|waterlines|z|height|heights|draft|draught)\b", re.I)
-MOST_METRES = {"x": 500, "height": 65, "half-breadth": 65}
 MOST_DIGITS = 20
 LEAST_LENGTH_TO_DEPTH, LEAST_LENGTH_TO_BREADTH, MOST_BREADTH_TO_DEPTH = 2, 1.25, 12  # of hulls of any kind
 
@@ -152,14 +155,11 @@ def positions_of(labels, places, most):
 
 
 def numbers_of(texts, places, most):
-    """The numbers of texts of one kind. With three decimals in some, and none in others that are greater, a point may part thousands."""
+    """The numbers of texts of one kind."""
     numbers = [length_of(text, where) for text, where in zip(texts, places)]
-    pointed = [text for text in texts if "." in text]
-    three = [text for text in pointed if THOUSANDS.match(text)]
-    whole = max((number for number, text in zip(numbers, texts) if "." not in text), default=0)
-    is_decimal = any(re.match("[+-]?[0-9]{4,}[.]", text) for text in pointed)
-    if three and not is_decimal and whole > max(map(Fraction, three)) and (whole > most or len(three) == len(pointed)):
-        raise BadTable(f'"{three[0]}" has three decimals, and {whole} stands beside it: does the point or comma part thousands? Write it without')
+    unclear = offset_rows.parting_thousands(texts, most)
+    if unclear:
+        raise BadTable(f'"{unclear}" has three decimals, and a greater number beside it none: does the point or comma part thousands? Write it without')
     return numbers
 
 
@@ -178,11 +178,11 @@ def table_of(rows):
     if len(rows) < 3 or width < 2:
         raise BadTable("the table has fewer than two rows or columns of half-breadths")
     first_column = [row[0] for _, row in rows[1:]]
-    most = MOST_METRES["x"]
+    most = offset_rows.MOST_METRES["x"]
     across = positions_of(header[1:], [f"the header, row {number}, column {at}" for at in range(2, width + 2)], most)
     down = positions_of(first_column, [f"row {row_number}, column 1" for row_number, _ in rows[1:]], most)
     given = [at for at, cell in enumerate(cells) if cell is not None]
-    numbers = dict(zip(given, numbers_of([cells[at] for at in given], [places[at] for at in given], MOST_METRES["half-breadth"])))
+    numbers = dict(zip(given, numbers_of([cells[at] for at in given], [places[at] for at in given], offset_rows.MOST_METRES["half-breadth"])))
     table = [[numbers.get(at) for at in range(first, first + width)] for first in range(0, len(cells), width)]
     corner = re.split(r"[\\/|]", header[0])  # "WL / x" names what stands down and what stands across; a single word may name either
     of_down, of_across = corner if len(corner) == 2 else ("", "")
@@ -263,7 +263,7 @@ def unit_of(kind, numbers, given, labels=""):
     elif len(said) == 1:
         unit, rule = said.pop(), "as the labels say"
     else:
-        unit, rule = "m" if greatest <= MOST_METRES[kind] else "mm", f"since the greatest is {float(greatest):g}"
+        unit, rule = "m" if greatest <= offset_rows.MOST_METRES[kind] else "mm", f"since the greatest is {float(greatest):g}"
     return (1000, f"in metres, {rule}") if unit == "m" else (1, f"in mm, {rule}")
 
 
@@ -395,4 +395,4 @@ def main():
 
 
 if __name__ == "__main__":
-    sys.exit(main())
+    output.run(main)
