@@ -15,6 +15,7 @@ import sys
 sys.dont_write_bytecode = True
 
 import offset_rows  # noqa: E402
+import output  # noqa: E402
 
 try:
     import tomllib
@@ -249,4 +250,4 @@ def main():
 
 
 if __name__ == "__main__":
-    sys.exit(main())
+    output.run(main)

@@ -18,6 +18,7 @@ import sys
 
 sys.dont_write_bytecode = True
 
+import output  # noqa: E402
 import report_lines  # noqa: E402
 
 SIDES = ["a1", "a2", "f1", "f2"]
@@ -103,4 +104,4 @@ def main():
 
 
 if __name__ == "__main__":
-    main()
+    output.run(main)

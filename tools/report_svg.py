@@ -29,6 +29,7 @@ from typing import NamedTuple
 sys.dont_write_bytecode = True
 
 import offset_rows  # noqa: E402
+import output  # noqa: E402
 import report_lines  # noqa: E402
 
 WIDTH, HEIGHT, LEAST_LEFT, RIGHT, TOP, BOTTOM = 480, 320, 72, 16, 36, 46
@@ -309,4 +310,4 @@ def main():
 
 
 if __name__ == "__main__":
-    main()
+    output.run(main)
