@@ -588,7 +588,18 @@ class Input(Room):
     def test_what_is_probably_not_meant(self):
         item = '[[item]]\nname = "a"\nmass = 1\nx = %d\nz = %d\n'
         opening = '[[opening]]\nname = "a"\ny = %d\nz = %d\n'
+        compartment = '[[compartment]]\nname = "a"\nfrom = %d\nto = %d\npermeability = %d\n'
+        floodable = "[floodable]\ncentres = [%d]\nstep = 1000\npermeability = %d\n"
         for words, warning in [
+            ({"job": JOB.replace("1025", "1250")}, "density is 1250"), ({"job": JOB.replace("4000", "200, 400")}, "Were they cm?"),
+            ({"job": JOB.replace("4000", "4000, 6")}, "a draft is 6,"), ({"job": JOB + item % (47, 5000)}, 'x of item "a" is 47,'),
+            ({"job": JOB + item % (47000, 7)}, 'z of item "a" is 7,'), ({"job": JOB + item % (47000, 5000)}, "the items weigh 1 kg"),
+            ({"job": JOB + "displacements = [8380]\n"}, "a displacement is 8380 kg"), ({"job": JOB + opening % (3, 5000)}, 'y of opening "a" is 3,'),
+            ({"job": JOB + opening % (3000, 9)}, 'z of opening "a" is 9,'), ({"job": JOB + compartment % (50, 66, 850)}, 'to of compartment "a" is 66,'),
+            ({"job": JOB + compartment % (90000, 120000, 850)}, "is partly outside"), ({"job": JOB + compartment % (50000, 66000, 85)}, "Is 850 meant?"),
+            ({"job": JOB + compartment % (50000, 66000, 1)}, "Is 1000 meant?"), ({"job": JOB + floodable % (30, 850)}, "a centre of [floodable] is 30,"),
+            ({"job": JOB + floodable % (130000, 850)}, "a centre of [floodable] is 130000,"), ({"job": JOB + floodable % (30000, 70)}, "permeability of [floodable] is 70"),
+            ({"rows": [(x, 840 if (x, z) == (50000, 4000) else y, z) for x, y, z in SHIP]}, "in row 50 the half-breadth at height 4000 is 840,"),
             ({"job": JOB.replace("drafts = [4000]", "")}, "no drafts"), ({"job": JOB.replace("4000", "8500")}, "above the whole hull"),
             ({"rows": SHIP + [(100000, 900, 9000)]}, "points"), ({"job": JOB.replace("4000", "0")}, "nothing is under water"),
             ({"job": JOB.replace("4000", "4, 8")}, "Were they metres?"),
@@ -605,13 +616,20 @@ class Input(Room):
 
     def test_a_sound_table_has_no_warning(self):
         rows = [(5000 * i, (4000 + 400 * j) * (0 < i < 20), 1000 * j) for i in range(21) for j in range(11)]
-        self.assertEqual(self.warned(rows=rows), "")
+        job = JOB + "displacements = [6000000]\n" + re.sub("z = 1[0-9]{4}", "z = 9000", "".join(CARGO_JOB.read_text().partition("[[item]]")[1:]))
+        for text in (JOB, job):
+            self.assertEqual(self.warned(job=text, rows=rows), "")
+
+    def test_what_is_refused_isn_t_looked_for(self):
+        self.assertNotIn("would be refused", self.tool("check_input.py", "--help").stdout)
+        self.assertNotEqual(self.warned(job=JOB.replace("version = 1", "version = 2")), "")
 
     def test_files_that_are_refused(self):
         good_job, good_rows = self.file("good.toml", JOB), self.file("good.csv", table(SHIP))
         for job, rows in [
             (self.room / "none", good_rows), (good_job, self.room / "none"), (good_job, self.file("bad.csv", "x,y,z\n")),
             (good_job, self.file("few.csv", "0,0,0\n")), (self.file("bad.toml", "version\n"), good_rows), (good_job, self.file("none.csv", "")),
+            (self.file("deep.toml", f"drafts = {'[' * 3000}{']' * 3000}\n"), good_rows), (self.file("long.toml", f"density = {'1' * 5000}\n"), good_rows),
         ]:
             self.assertEqual(self.tool("check_input.py", job, rows).returncode, 2)
 
