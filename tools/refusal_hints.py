@@ -469,8 +469,21 @@ def comma_hints(case):
         yield "decimal_comma"
     elif len(fields) > 3 and all(map(GROUPED.fullmatch, rows)) and len({row.count(",") for row in rows}) > 1:
         yield "thousands"
-    elif len(fields) > 3:
-        yield "end_comma" if not fields[-1] else "more_columns"
+    elif len(fields) > 3 and not fields[-1]:
+        yield "end_comma"
+    elif has_more_columns(case):
+        yield "more_columns"
+
+
+def has_more_columns(case):
+    """Whether a field is a remark, or the columns make stations without the first or the last; a decimal comma parts fields too."""
+    rows = [cells_of(row, mark_of(case)) for row in case.rows[is_header(case) :]]
+    if not is_header(case) and len(rows[case.row.number - 1]) > 3 and any(re.search("[A-Za-z]", cell) for cell in rows[case.row.number - 1]):
+        return True
+    return any(
+        all(len(row) == 4 and all(map(offset_rows.is_number, row[part])) for row in rows) and are_stations([list(map(int, row[part])) for row in rows])
+        for part in (slice(1, 4), slice(0, 3))
+    )
 
 
 NUMBER_IN_GROUPS = "(?:[1-9][0-9]{0,2}(?:,[0-9]{3})+|[0-9]{1,3})"
@@ -485,7 +498,7 @@ def separator_hints(case):
     if is_header(case):
         yield "header"
     yield "semicolons" if mark == ";" else "tabs"
-    if len(case.text.split(mark)) > 3:
+    if has_more_columns(case):
         yield "more_columns"
     if columns_part_thousands(case):
         yield "thousands"
@@ -594,7 +607,7 @@ def range_hints(case):
 
 def place_of_x(case):
     """Where x stands, if not first, by the orders of columns that give stations with points from low to high; None where that isn't sure."""
-    if not case.rows or not all(len(row.fields) == 3 and all(map(offset_rows.is_number, row.fields)) for row in case.rows):
+    if not all(len(row.fields) == 3 and all(map(offset_rows.is_number, row.fields)) for row in case.rows):
         return None
     rows = [[int(field) for field in row.fields] for row in case.rows]
     found = {order[0] for order in itertools.permutations(range(3)) if are_stations([[row[at] for at in order] for row in rows])}
@@ -602,6 +615,9 @@ def place_of_x(case):
 
 
 def are_stations(rows):
+    """Whether rows x, half-breadth, height are those of three stations or more, each with its points from low to high."""
+    if not rows:
+        return False
     x, y, z = zip(*rows)
     length, breadth, depth = (max(column) - min(column) for column in (x, y, z))
     heights = [[row[2] for row in group] for _, group in itertools.groupby(rows, key=lambda row: row[0])]

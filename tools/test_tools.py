@@ -216,6 +216,7 @@ OFFSET_HINTS = [
     ("columns 7", table(CARGO_ROWS[:6]) + ",\n", "empty_row"), ("columns 1", table(HALF_BREADTHS), "table"), ("columns 1", table(HALF_BREADTHS, ";"), "table"),
     ("columns 1", table(metres(HALF_BREADTHS[1:], ","), ";"), "table"), ("columns 1", table(HALF_BREADTHS, "\t"), "table"),
     ("columns 1", table([[0, *row] for row in CARGO_ROWS], ";"), "semicolons more_columns"),
+    ("columns 1", table([[x, 0, 7, z] for x, _, z in CARGO_ROWS[::-1]]), ""), ("columns 2", "0,0,0\n0,700,5,1000\n", ""),
     # commas in numbers
     ("columns 1", table([[f"{int(word) / 1000:.3f}".replace(".", ",") for word in row] for row in CARGO_ROWS]), "decimal_comma"),
     ("columns 2", table(GROUPED_ROWS), "thousands"), ("number 2 3", table([[f'"{word}"' for word in row] for row in GROUPED_ROWS]), "thousands"),
@@ -243,7 +244,7 @@ OFFSET_HINTS = [
     ("height 10", table(CARGO_ROWS[:9] + CARGO_ROWS[8:]), "same_row"),
     # single slips
     ("number 1 1", "x,y,z\n0,0,0\n", "header"), ("columns 1", "0;0;0\n", "semicolons"), ("columns 1", "0\t0\t0\n", "tabs"),
-    ("columns 1", "0 0 0\n", "blanks"), ("columns 1", "# ship\n0,0,0\n", "comment"), ("columns 1", "0,0,1,0,2,0\n", "more_columns"),
+    ("columns 1", "0 0 0\n", "blanks"), ("columns 1", "# ship\n0,0,0\n", "comment"), ("columns 1", "0,0,1,0,2,0\n", ""),
     ("columns 1", "x,0,1,3,6,9,12\n", "table"), ("number 1 1", table(metres(CARGO_ROWS)), "metres"),
     ("number 1 2", "90000,700.5,0\n", "decimals"), ("number 2 1", "0,0,0\n,,\n", "empty_row"), ("number 1 1", "0 mm,0 mm,0 mm\n", "unit"),
     ("number 1 3", "0,0,1 000\n", "thousands"), ("number 1 3", "0,0,+5\n", "sign"), ("columns 1", b"PK\x03\x04", "workbook"),
