@@ -60,7 +60,7 @@ def parting_thousands(texts, most):
     """A number among those of one kind whose point may part thousands: it has three decimals, and a greater one has none."""
     pointed = [text for text in texts if "." in text]
     three = [text for text in pointed if THOUSANDS.match(text)]
-    whole = max((int(text) for text in texts if "." not in text), default=0)
+    whole = max((float(text) for text in texts if "." not in text), default=0)
     is_decimal = any(re.match("[+-]?[0-9]{4,}[.]", text) for text in pointed)
     if three and not is_decimal and whole > max(map(float, three)) and (whole > most or len(three) == len(pointed)):
         return three[0]

@@ -43,7 +43,8 @@ class Case:
         self.rows = offset_rows.rows_of(self.offsets or b"")
 
     def number(self, place):
-        return int(self.places.get(place, 0))
+        word = self.places.get(place, "")
+        return int(word) if re.fullmatch("[0-9]{1,40}", word) else 0
 
     @property
     def row(self):
@@ -145,7 +146,7 @@ def entry_text(case, entry, table):
 
 
 def last_station(case):
-    if all(len(row.fields) == 3 and all(map(offset_rows.is_number, row.fields)) for row in case.rows):
+    if all(map(has_numbers, case.rows)):
         count = len(offset_rows.stations_of(case.rows))
         return f", and the last of {case.offsets_name} is {count - 1}" if count else ""
     return ""
@@ -339,7 +340,7 @@ def key_hints(case, cause):
     value = entry.get(word)
     values = value if isinstance(value, list) else [value]
     if cause == "kind" and any(isinstance(one, float) for one in values):
-        return float_hints(word, value)
+        return float_hints(word, next(one for one in values if isinstance(one, float)))
     if cause == "kind" and any(isinstance(one, str) and one.strip("0123456789.,") == "" for one in values):
         return [("toml_quoted", {})]
     if cause == "range" and word == "density" and value in (0, 1):
@@ -370,15 +371,14 @@ def near_name(wrong, known):
 
 
 def unnamed_hints(case):
-    known = [entry.get("name") for entry in list_of(case.tables(), "compartment")]
-    flooded = [name for entry in list_of(case.tables(), "damage")[case.number("ENTRY") - 1 :][:1] for name in entry.get("flooded", [])]
-    wrong = next((name for name in flooded if name not in known), None)
+    compartments = case.tables().get("compartment", [])
+    known = texts_of([entry.get("name") for entry in compartments if isinstance(entry, dict)] if isinstance(compartments, list) else [])
+    wrong = next((name for name in texts_of(entry_of(case, "damage").get("flooded")) if name not in known), None)
     return [("unnamed", {"wrong": shortened(wrong), "near": near_name(wrong, known)})] if wrong else []
 
 
-def list_of(tables, name):
-    found = tables.get(name, [])
-    return [entry for entry in found if isinstance(entry, dict)] if isinstance(found, list) else []
+def texts_of(value):
+    return [one for one in value if isinstance(one, str)] if isinstance(value, list) else []
 
 
 # ---- Hints for an offset file
@@ -410,9 +410,16 @@ def offset_hints(case, cause):
         return [kind]
     if looks_like_job(case.offsets) and cause in ("columns", "number"):
         return ["job_for_offsets" if case.words[:1] == ["section"] else "exchanged"]
-    if cause not in HINTS or case.row is None and cause != "fewstations":
+    if cause not in HINTS or case.row is None and cause != "fewstations" or cause in OF_NUMBERS and not has_numbers(case.row):
         return []
     return [name for name in HINTS[cause](case) if name]
+
+
+OF_NUMBERS = ("negative", "range", "backwards", "height")  # causes that come only in rows of three numbers
+
+
+def has_numbers(row):
+    return len(row.fields) == 3 and all(map(offset_rows.is_number, row.fields))
 
 
 def mark_of(case):
@@ -573,7 +580,8 @@ def whole_x(case):
 
 
 def negative_hints(case):
-    yield from {1: negative_x, 2: negative_breadths, 3: negative_heights}[case.number("COLUMN")](case)
+    hints_of = {1: negative_x, 2: negative_breadths, 3: negative_heights}.get(case.number("COLUMN"))
+    yield from hints_of(case) if hints_of else []
 
 
 def negative_x(case):
@@ -607,7 +615,7 @@ def range_hints(case):
 
 def place_of_x(case):
     """Where x stands, if not first, by the orders of columns that give stations with points from low to high; None where that isn't sure."""
-    if not all(len(row.fields) == 3 and all(map(offset_rows.is_number, row.fields)) for row in case.rows):
+    if not all(map(has_numbers, case.rows)):
         return None
     rows = [[int(field) for field in row.fields] for row in case.rows]
     found = {order[0] for order in itertools.permutations(range(3)) if are_stations([[row[at] for at in order] for row in rows])}

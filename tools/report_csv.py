@@ -7,7 +7,7 @@ A table has one row for each line of its name: hydro, section, cross, load, upri
 figure takes two columns, its low and its high end, as printed; an absent figure leaves both empty. With --out each
 table that has rows is written to FOLDER/NAME.csv; otherwise one table (--table, or the only one that has rows) goes to
 the output. Ends with 1 and the number of the line where a line is outside the grammar, and with 1 and the line itself
-where there is a `refused` or a `fault` line in place of a report.
+where there is a `refused` or a `fault` line in place of a report. Of a report that was cut, standard error says so.
 """
 
 import argparse

@@ -311,6 +311,19 @@ class Hints(Room):
             with self.subTest(said):
                 self.assertIn(said, self.tool("explain", f"refused offsets {line}", "hydro", CARGO_JOB, self.file("ship.csv", content), encoding="utf-8").stdout)
 
+    def test_lines_that_do_not_belong_to_the_files(self):
+        texts = refusal_texts.load()
+        jobs = ["", "density = [1.5]\n", "[[damage]]\nflooded = 5\n", '[[damage]]\nflooded = [5, "a"]\n[[compartment]]\nname = 5\n', "item = 5\n"]
+        hulls = ["", "\n", "x,y,z\n", "0;0;0\n", f"{'1' * 5000};1.000;5\n", "0,0\n", ",,\n", "0,0,0\n0,0,0\n", '"0\n', b"\xff,\0,\x80\n"]
+        for job, hull in [(job, hulls[-1]) for job in jobs] + [(jobs[0], hull) for hull in hulls]:
+            words = ["hydro", str(self.file("ship.toml", job)), str(self.file("ship.csv", hull))]
+            for line in lines_of_specs() + [f"refused offsets {cause} {row} {at}" for cause in ("number", "negative", "range") for row in ("1", "x", "9") for at in "1234"]:
+                with self.subTest(line=line, job=job, hull=hull):
+                    entry, places = texts.entry_of(line.split())
+                    case = refusal_hints.Case(words, places)
+                    for name, filled in [(entry, refusal_hints.filled(case, entry, texts)), *((f"hint {name}", words) for name, words in refusal_hints.hints(case, entry))]:
+                        self.assertTrue(texts.fill(name, filled))
+
     def test_words_are_shown_as_they_were_given(self):
         for word in ("\u2013help", "hydr\xf6"):
             self.assertIn(f'"{word}" is no command', self.tool("explain", "refused usage", word, encoding="utf-8").stdout)
