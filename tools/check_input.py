@@ -4,7 +4,8 @@
     tools/check_input.py JOB OFFSETS
 
 Each warning says what was seen, where, and what to do. Status 0 without warnings, 1 with some, 2 where a file can't be
-read or would be refused (hullcert says why). A file without warnings may be wrong all the same.
+looked into: it can't be read, is no TOML, or holds no rows of numbers that make a hull. What hullcert refuses besides
+isn't looked for here. A file without warnings may be wrong all the same.
 """
 
 import argparse
@@ -15,6 +16,7 @@ import sys
 sys.dont_write_bytecode = True
 
 import offset_rows  # noqa: E402
+import output  # noqa: E402
 
 try:
     import tomllib
@@ -26,6 +28,11 @@ LEAST_LENGTH = 2000  # mm: a hull that is shorter was probably given in metres
 LEAST_LENGTH_TO_BREADTH, MOST_BREADTH_TO_DEPTH = 3.2, 3.6
 LEAST_BP, MOST_BP = 0.85, 1.02  # of the hull's length
 MOST_END_SPACING = 1.5  # of the spacing amidships
+LEAST_DRAFT = 0.1  # of the depth: drafts that are all smaller were probably given in cm
+LEAST_PLACE = 0.01  # of the hull's length, half-breadth or depth: what is closer to 0 was probably given in metres
+LEAST_MASS = 0.01  # of the box round the hull in water: what is lighter was probably given in tonnes
+LEAST_DENSITY, MOST_DENSITY = 990, 1050
+MOST_PERCENT = 100  # thousandths: a permeability that is smaller was probably given in per cent, or as a part of 1
 
 
 class Unread(Exception):
@@ -44,6 +51,7 @@ class Hull:
         self.keel = min(point.z for point in points)
         self.top = max(point.z for point in points)
         self.depth = self.top - self.keel
+        self.box = self.length * 2 * self.half_breadth * self.depth // 10**6  # kg of fresh water
 
     def lowest_deck(self):
         """The station whose top point is the lowest, with its number; single points at the ends have no deck."""
@@ -79,7 +87,7 @@ def job_of(name):
         raise Unread("reading a job needs Python 3.11 or later")
     try:
         return tomllib.loads(read(name).decode())
-    except ValueError as fault:
+    except (ValueError, RecursionError) as fault:
         raise Unread(f"{name}: {fault}; hullcert says why it is refused") from None
 
 
@@ -161,7 +169,45 @@ def counts(hull):
         yield f"the station with the most points has {heights}: for curved frames take {LEAST_HEIGHTS} heights at least"
 
 
+def slips(hull):
+    """Half-breadths that are less than half of all four around them, or more than twice: in the station and in those beside it."""
+    for at, (before, station, after) in enumerate(zip(hull.stations, hull.stations[1:], hull.stations[2:]), start=1):
+        for below, point, above in zip(station.kept, station.kept[1:], station.kept[2:]):
+            beside = [breadth_at(other, point.z) for other in (before, after)]
+            if None in beside:
+                continue
+            around = [below.y, above.y, *beside]
+            if 2 * point.y < min(around) or point.y > 2 * max(around):
+                yield (
+                    f"station {at} (x {station.x}): in row {point.row} the half-breadth at height {point.z} is {point.y}, and around it "
+                    f"{min(around):.0f} to {max(around):.0f}. Is it a slip?"
+                )
+
+
+def breadth_at(station, z):
+    """A station's half-breadth at a height, None above and below it."""
+    for low, high in zip(station.kept, station.kept[1:]):
+        if low.z <= z <= high.z:
+            return low.y + (high.y - low.y) * (z - low.z) / (high.z - low.z)
+    return None
+
+
 # ---- The job
+
+
+def density(job, hull):
+    for value in numbers(job.get("density")):
+        if not LEAST_DENSITY <= value <= MOST_DENSITY:
+            yield f"density is {value}: sea water is 1025 and fresh water 1000. Is a digit out of place?"
+
+
+def near_zero(value, whole):
+    """Whether a length in mm is so small beside the hull's that it is probably in metres."""
+    return 0 < value < LEAST_PLACE * whole
+
+
+def in_metres(what, value):
+    return f"{what} is {value}, which is {value} mm. Was it given in metres?"
 
 
 def job_length(job, hull):
@@ -177,8 +223,12 @@ def drafts(job, hull):
     given = numbers(job.get("drafts", []))
     if not given:
         yield "the job has no drafts, so the tables have no rows. Add drafts = [2000, 4000], in mm"
-    elif hull.keel < max(given) < hull.keel + hull.depth / 100:
+    elif hull.keel < max(given) < hull.keel + hull.depth * LEAST_PLACE:
         yield f"the drafts, {max(given)} mm at the most, are less than a hundredth of the hull's depth. Were they metres?"
+    elif hull.keel < max(given) < hull.keel + hull.depth * LEAST_DRAFT:
+        yield f"the drafts, {max(given)} mm at the most, are less than a tenth of the hull's depth. Were they cm?"
+    else:
+        yield from (in_metres("a draft", draft) for draft in given if near_zero(draft - hull.keel, hull.depth))
     at, station = hull.lowest_deck()
     deck = station.kept[-1].z
     for draft in given:
@@ -196,9 +246,13 @@ def drafts(job, hull):
 def openings(job, hull):
     for entry in tables(job, "opening"):
         for z in numbers(entry.get("z")):
+            if near_zero(z, hull.depth):
+                yield in_metres(f"z of opening {named(entry)}", z)
             if z > hull.top + hull.depth / 4:
                 yield f"opening {named(entry)} is at {z}, far above the deck (its highest point is at {hull.top}). Is z in mm above the base?"
         for y in numbers(entry.get("y")):
+            if near_zero(y, hull.half_breadth):
+                yield in_metres(f"y of opening {named(entry)}", y)
             if y > hull.half_breadth:
                 yield f"opening {named(entry)} is {y} from the centreplane, and the hull's half-breadth is {hull.half_breadth}. Is y in mm?"
 
@@ -206,9 +260,13 @@ def openings(job, hull):
 def items(job, hull):
     for entry in tables(job, "item"):
         for x in numbers(entry.get("x")):
+            if near_zero(x, hull.length):
+                yield in_metres(f"x of item {named(entry)}", x)
             if not hull.aft <= x <= hull.fore:
                 yield f"item {named(entry)} is at x {x}, outside the hull, which goes from {hull.aft} to {hull.fore}. x counts from x = 0 of the offsets, in mm"
         for z in numbers(entry.get("z")):
+            if near_zero(z, hull.depth):
+                yield in_metres(f"z of item {named(entry)}", z)
             if z > hull.top + hull.depth / 2:
                 yield f"item {named(entry)} is at z {z}, far above the deck (its highest point is at {hull.top}). Is z in mm above the base?"
 
@@ -218,10 +276,44 @@ def compartments(job, hull):
         for low, high in zip(numbers(entry.get("from")), numbers(entry.get("to"))):
             if high <= hull.aft or low >= hull.fore:
                 yield f"compartment {named(entry)}, from {low} to {high}, is outside the hull, which goes from {hull.aft} to {hull.fore}"
+            elif near_zero(high, hull.length):
+                yield in_metres(f"to of compartment {named(entry)}", high)
+            elif low < hull.aft or high > hull.fore:
+                yield f"compartment {named(entry)}, from {low} to {high}, is partly outside the hull, which goes from {hull.aft} to {hull.fore}"
 
 
-OF_HULL = [units, exchanged_columns, full_breadths, dropped_points, ends, counts]
-OF_JOB = [job_length, drafts, openings, items, compartments]
+def masses(job, hull):
+    """Items of which all together, and displacements of which each, weigh next to nothing beside the hull's water."""
+    loaded = [mass for entry in tables(job, "item") for mass in numbers(entry.get("mass"))]
+    found = [("the items weigh", sum(loaded))] * bool(loaded) + [("a displacement is", one) for one in numbers(job.get("displacements", []))]
+    for what, mass in found:
+        if mass < LEAST_MASS * hull.box:
+            yield f"{what} {mass} kg, less than a hundredth of the water in a box round the hull. Was it given in tonnes?"
+
+
+def floodable(job):
+    found = job.get("floodable", {})
+    return found if isinstance(found, dict) else {}
+
+
+def centres(job, hull):
+    for centre in numbers(floodable(job).get("centres", [])):
+        if near_zero(centre, hull.length):
+            yield in_metres("a centre of [floodable]", centre)
+        elif not hull.aft <= centre <= hull.fore:
+            yield f"a centre of [floodable] is {centre}, outside the hull, which goes from {hull.aft} to {hull.fore}"
+
+
+def permeabilities(job, hull):
+    of_compartments = [(f"compartment {named(entry)}", entry) for entry in tables(job, "compartment")]
+    for where, entry in [*of_compartments, ("[floodable]", floodable(job))]:
+        for value in numbers(entry.get("permeability")):
+            if 0 < value <= MOST_PERCENT:
+                yield f"permeability of {where} is {value} thousandths, so that hardly any water comes in. Is {1000 if value == 1 else 10 * value} meant?"
+
+
+OF_HULL = [units, exchanged_columns, full_breadths, dropped_points, slips, ends, counts]
+OF_JOB = [density, job_length, drafts, openings, items, masses, compartments, centres, permeabilities]
 MOST_ALIKE = 3
 
 
@@ -249,4 +341,4 @@ def main():
 
 
 if __name__ == "__main__":
-    sys.exit(main())
+    output.run(main)

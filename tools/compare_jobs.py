@@ -25,6 +25,7 @@ import tempfile
 sys.dont_write_bytecode = True
 
 import checker  # noqa: E402
+import output  # noqa: E402
 
 TOP = pathlib.Path(__file__).resolve().parent.parent
 PARTED = b"\x1e"
@@ -215,4 +216,4 @@ def main():
 
 
 if __name__ == "__main__":
-    sys.exit(main())
+    output.run(main)

@@ -22,6 +22,7 @@ import tempfile
 sys.dont_write_bytecode = True
 
 import checker  # noqa: E402
+import output  # noqa: E402
 from compare_jobs import broken  # noqa: E402
 from mutate_offsets import mutated  # noqa: E402
 
@@ -85,4 +86,4 @@ def main():
 
 
 if __name__ == "__main__":
-    sys.exit(main())
+    output.run(main)

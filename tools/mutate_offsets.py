@@ -21,6 +21,7 @@ import tempfile
 sys.dont_write_bytecode = True
 
 import checker  # noqa: E402
+import output  # noqa: E402
 
 TOP = pathlib.Path(__file__).resolve().parent.parent
 FIELDS = [
@@ -134,4 +135,4 @@ def main():
 
 
 if __name__ == "__main__":
-    sys.exit(main())
+    output.run(main)

@@ -9,6 +9,8 @@ import re
 from typing import NamedTuple
 
 NUMBER = re.compile(r"-?[0-9]{1,9}\Z")
+THOUSANDS = re.compile(r"[+-]?[0-9]{1,3}[.][0-9]{3}\Z")
+MOST_METRES = {"x": 500, "half-breadth": 65, "height": 65}  # of no ship is more given in metres
 csv.field_size_limit(2 ** 31 - 1)
 
 
@@ -52,6 +54,17 @@ def rows_of(content):
 
 def is_number(field):
     return NUMBER.match(field.strip(" \t")) is not None
+
+
+def parting_thousands(texts, most):
+    """A number among those of one kind whose point may part thousands: it has three decimals, and a greater one has none."""
+    pointed = [text for text in texts if "." in text]
+    three = [text for text in pointed if THOUSANDS.match(text)]
+    whole = max((float(text) for text in texts if "." not in text), default=0)
+    is_decimal = any(re.match("[+-]?[0-9]{4,}[.]", text) for text in pointed)
+    if three and not is_decimal and whole > max(map(float, three)) and (whole > most or len(three) == len(pointed)):
+        return three[0]
+    return None
 
 
 def stations_of(rows):

@@ -3,7 +3,7 @@
 import pathlib
 
 TABLE = pathlib.Path(__file__).resolve().with_name("explain.txt")
-PLACES = {"ROW", "COLUMN", "STATIONS", "STATION", "KEY", "ENTRY", "FIRST", "SECOND", "MASS", "SIX"}
+PLACES = {"ROW", "COLUMN", "STATIONS", "STATION", "KEY", "ENTRY", "FIRST", "SECOND", "MASS", "SIX", "SUM"}
 
 
 class Texts:

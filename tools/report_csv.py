@@ -7,7 +7,7 @@ A table has one row for each line of its name: hydro, section, cross, load, upri
 figure takes two columns, its low and its high end, as printed; an absent figure leaves both empty. With --out each
 table that has rows is written to FOLDER/NAME.csv; otherwise one table (--table, or the only one that has rows) goes to
 the output. Ends with 1 and the number of the line where a line is outside the grammar, and with 1 and the line itself
-where there is a `refused` or a `fault` line in place of a report.
+where there is a `refused` or a `fault` line in place of a report. Of a report that was cut, standard error says so.
 """
 
 import argparse
@@ -18,6 +18,7 @@ import sys
 
 sys.dont_write_bytecode = True
 
+import output  # noqa: E402
 import report_lines  # noqa: E402
 
 SIDES = ["a1", "a2", "f1", "f2"]
@@ -95,10 +96,12 @@ def main():
         write_all(tables, given.out)
         return
     names = [given.table] if given.table else list(tables)
-    if len(names) != 1:
-        sys.exit(f"{given.report}: tables {', '.join(names) or 'none'}; choose one with --table, or give --out")
+    if not names:
+        sys.exit(f"{given.report}: no table has rows; has the job drafts or displacements?")
+    if len(names) > 1:
+        sys.exit(f"{given.report}: tables {', '.join(names)}; choose one with --table, or give --out")
     sys.stdout.write(table_text(tables.get(names[0], []), names[0]))
 
 
 if __name__ == "__main__":
-    main()
+    output.run(main)

@@ -1,7 +1,8 @@
 """The lines of a report, as `specs/Spelling.antt` of the crate hull_report spells them.
 
 `lines_of(content)` gives a list of lines, each a list of words; `BadLine` names the first line outside the grammar.
-`read(name)` gives those of a file, and ends with a sentence where there is no report in it.
+`read(name)` gives those of a file, where CR LF is taken for a line's end too, and ends with a sentence where there is no
+report in it. `lack_of(lines)` says what is missing of reports that were cut.
 """
 
 import pathlib
@@ -113,6 +114,17 @@ def figure_of(word, places=6):
     return None if ends is None else (ends[0] / 10 ** places, ends[1] / 10 ** places)
 
 
+def lack_of(lines):
+    """A sentence where a report doesn't end with the number of its lines, as one that was cut; else None."""
+    begun = 0
+    for at, words in enumerate(lines, start=1):
+        if words[0] == "end":
+            if int(words[1]) != at - begun:
+                return f"the report that ends in line {at} has {at - begun} lines, and says {words[1]}: some were lost or added"
+            begun = at
+    return None if begun == len(lines) else "the report has no line end: it was cut, and may lack figures"
+
+
 def read(name):
     """The lines of the report in a file, or in the input where the name is "-"; ends with a sentence where there are none."""
     try:
@@ -125,6 +137,10 @@ def read(name):
         line = content.splitlines()[0].decode("ascii", "replace")
         sys.exit(f"{name}: {line}\n{name}: there is no report; tools/explain '{line}' says what this means")
     try:
-        return lines_of(content)
+        lines = lines_of(content.replace(b"\r\n", b"\n"))
     except BadLine as bad:
         sys.exit(f"{name}: {bad}")
+    lack = lack_of(lines)
+    if lack:
+        print(f"{name}: {lack}", file=sys.stderr)
+    return lines

@@ -18,6 +18,10 @@ from collections.abc import Callable
 from fractions import Fraction
 from pathlib import Path
 
+sys.dont_write_bytecode = True
+
+import output  # noqa: E402
+
 LENGTH, BREADTH, DRAFT = 100_000, 10_000, 6_250
 GRIDS = [(11, 6), (21, 6), (21, 11), (41, 16), (64, 32)]
 JOB = f"version = 1\ndensity = 1025\nlength_bp = {LENGTH}\ndrafts = [{DRAFT}]\n"
@@ -97,4 +101,4 @@ def main() -> None:
 
 
 if __name__ == "__main__":
-    main()
+    output.run(main)
