@@ -826,6 +826,40 @@ class Everything(Room):
                 self.assertEqual(done.returncode, 3, done.stdout)
                 self.assertIsNotNone(texts.entry_of(done.stdout.split()))
 
+# One item on the barge: criterion, mass in kg, height in mm, and free surface moments in kg·m at which the criterion holds,
+# is unsure twice, and fails, each a kg·m from the next mark. A kg·m raises the centre by 0.0001 mm.
+LIMITS = [
+    (1, 10250000, 9254, (5389, 5390, 5645, 5646)),
+    (2, 10250000, 9292, (8262, 8263, 8461, 8462)),
+    (3, 10250000, 9394, (795, 796, 1606, 1607)),
+    (4, 10250000, 9651, (8289, 8290, 8413, 8414)),
+    (5, 16400000, 5383, (11462, 11463, 28233, 28234)),
+]
+GM_LIMIT = (6, 10250000, 9016, (6833, 6834))
+
+
+@unittest.skipUnless(PROGRAM.exists(), "the program isn't built")
+class Criteria(Room):
+    def mark(self, criterion, mass, height, moment):
+        item = f'[[item]]\nname = "a"\nmass = {mass}\nx = 50000\nz = {height}\nfree_surface = {moment}\n'
+        job = self.file("ship.toml", f"version = 1\ndensity = 1025\nlength_bp = 100000\n{item}")
+        done = run([PROGRAM, "stability", job, TOP / "examples" / "barge.csv"])
+        marks = re.findall(r"(?m)^mark C([1-6]) (\w+)$", done.stdout)
+        named = next((int(number) for number, mark in marks if mark == "fails"), None)
+        self.assertEqual(done.returncode == 1, named is not None)
+        self.assertIn(f"verdict fail C{named} " if named else "verdict ", done.stdout)
+        return dict(marks)[str(criterion)]
+
+    def test_each_criterion_at_its_limit(self):
+        for criterion, mass, height, moments in LIMITS:
+            with self.subTest(criterion=criterion):
+                found = [self.mark(criterion, mass, height, moment) for moment in moments]
+                self.assertEqual(found, ["holds", "unsure", "unsure", "fails"])
+
+    def test_gm_at_its_limit(self):
+        criterion, mass, height, moments = GM_LIMIT
+        self.assertEqual([self.mark(criterion, mass, height, moment) for moment in moments], ["holds", "fails"])
+
 
 def counted(result, after):
     """How many tests passed and failed, with those of a line."""
