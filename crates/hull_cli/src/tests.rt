@@ -1,8 +1,7 @@
 mod cargo;
-mod curves;
+mod heeled;
 mod refusals;
 mod reports;
-mod verdicts;
 mod words;
 
 ghost use Rattle.std.specs.Prelude.{◌≢◌};

@@ -1,0 +1,59 @@
+// Curves and verdicts of the barge: words that stand in their reports, and the exit code.
+use super::{BARGE, bytes_of, shelf_of, words_of};
+use crate::run;
+use desk::MemSink;
+use std::alloc::Global;
+use std::str;
+use std::test::Fail;
+
+const CASES: &str = "\
+0@cross@hull 3 6/body 120000000000000/cross 10250000 0 5120000 5120000 [@density = 1025/displacements = [10250000, 20500000]/\n\
+0@cross@/cross 10250000 90 0 0 [4.99999@density = 1025/displacements = [10250000, 20500000]/\n\
+0@cross@/cross 20500000 30 20480000 20480000 [2.49999@density = 1025/displacements = [10250000, 20500000]/\n\
+0@cross@/end 186/@density = 1025/displacements = [10250000, 20500000]/\n\
+0@stability@load 10250000 [50.000000,50.000000] [7.000000,7.000000]/@density = 1025/item = [{name = 'a', mass = 10250000, x = 50000, z = 7000}]/\n\
+0@stability@upright 5120000 5120000 [2.@density = 1025/item = [{name = 'a', mass = 10250000, x = 50000, z = 7000}]/\n\
+0@stability@mark C6 holds/verdict pass/end 104/@density = 1025/item = [{name = 'a', mass = 10250000, x = 50000, z = 7000}]/\n\
+1@stability@verdict fail C3 leak 1 27 [0.@density = 1025/item = [{name = 'a', mass = 10250000, x = 50000, z = 7000}]/opening = [{name = 'o', y = 10000, z = 10000}]/\n\
+1@stability@verdict fail C6 interval 0 [0.06666@density = 1025/item = [{name = 'a', mass = 10250000, x = 50000, z = 9100}]/\n\
+1@stability@verdict fail C5 pair @density = 1025/item = [{name = 'a', mass = 16400000, x = 50000, z = 6300}]/\n\
+3@stability@refused load nomass/@density = 1025/\n\
+3@stability@refused load nomass/@density = 1025/item = [{name = 'a', mass = 0, x = 0, z = 0}]/\n\
+3@stability@refused load massrange 137438953472/@density = 1025/item = [{name = 'a', mass = 68719476736, x = 0, z = 0}, {name = 'b', mass = 68719476736, x = 0, z = 0}]/\n\
+3@stability@refused heavy 20500001 120000000000000/@density = 1025/item = [{name = 'a', mass = 20500001, x = 0, z = 0}]/\n\
+";
+
+// Whether a run on this job ends with the code and has written this part.
+fn has(alloc: Global, command: &str, job: &str, code: u8, part: &str) -> Result<bool, Fail> {
+    let job = format!(in alloc; "version = 1/length_bp = 100000/{job}")?;
+    let job = bytes_of(alloc, job.as_str())?;
+    let mut shelf = shelf_of(alloc, job, bytes_of(alloc, BARGE)?, Vec::new(alloc))?;
+    let mut out = MemSink::new(alloc, 16384, 1024, Vec::new(alloc))?;
+    let words = format!(in alloc; "{command}|job.toml|hull.csv")?;
+    let words = words_of(alloc, words.as_str())?;
+    let status = run(alloc, &words, &mut shelf, &mut out);
+    let wanted = bytes_of(alloc, part)?;
+    let text = str::from_utf8(out.taken())?;
+    Ok(status.code() == code && text.contains(str::from_utf8(&wanted)?))
+}
+
+// The first case that is answered otherwise: its exit code, command, a part of the report, and the job.
+fn wrong_report(alloc: Global, cases: &str) -> Result<Option<&str>, Fail> {
+    for case in cases.lines() {
+        let mut fields = case.split('@');
+        let code = fields.next().ok_or("no code")?.parse::<u8>()?;
+        let command = fields.next().ok_or("no command")?;
+        let part = fields.next().ok_or("no part")?;
+        let job = fields.next().ok_or("no job")?;
+        if !has(alloc, command, job, code, part)? {
+            return Ok(Some(case));
+        }
+    }
+    Ok(None)
+}
+
+#[test]
+fn each_report_has_its_part(rt: HostRuntime) -> Result<(), Fail> {
+    assert_eq!(rt; wrong_report(rt.alloc(), CASES)?, None);
+    Ok(())
+}
