@@ -1,8 +1,14 @@
 -- The first fault in a list, element by element, as a loop finds it.
 use Rattle.std.proofs.Common.{◌≡◌, ℕ, ◌+◌, ◌<◌, ◌≤◌, List, [], ◌∷◌, ◌++◌, length, map, take, drop, drop_of_length-le, get_or, Option, Some, None, refl, ap, ◌∙◌, zero, suc, append_assoc, arith}
+use Rattle.std.specs.List.{AllByRecursion}
 use Rattle.std.proofs.lemmas.List.{drop_more, map_more, append-nil}
 use Rattle.job_reader.specs.declared.fault.JobFault.{JobFault}
 use Rattle.job_reader.specs.Faults.{◌or_later◌, first_from, first_in}
+
+pub every_at : {A : Type 0} (P : A → Type 0) (xs : List A) (i : ℕ) (d : A) → i < length xs → AllByRecursion P xs → P (get_or xs i d)
+every_at P [] i d within all = absurd (omega (arith, within))
+every_at P (x ∷ xs) zero d within all = all.0
+every_at P (x ∷ xs) (suc i) d within all = every_at P xs i d (omega (arith, within)) all.1
 
 pub none_either : (f g : Option JobFault) → (f or_later g) ≡ None → (f ≡ None) × (g ≡ None)
 none_either None g h = (refl, h)

@@ -1,5 +1,6 @@
 -- From what tables say to what a job has.
 use Rattle.std.proofs.Common.{◌≡◌, ◌≤◌, length, le-leb, ℕ, ℤ, List, [], ◌∷◌, map, Option, Some, None, true, refl, ap, ap₂, sym, ◌∙◌}
+use Rattle.std.specs.List.{AllByRecursion}
 use Rattle.hull_model.specs.declared.slab.Slab.{Slab}
 use Rattle.toml.specs.Data.{Data, Members, as_table}
 use Rattle.job_reader.specs.declared.entry.Named.{Named}
@@ -56,7 +57,14 @@ unfolding SayAll
 cases_said [] [] all = refl
 cases_said [] (e ∷ es) all = absurd all
 cases_said (t ∷ ts) [] all = absurd all
-cases_said (t ∷ ts) (e ∷ es) all = ap₂ (λ x xs. x ∷ xs) all.0.value (cases_said ts es all.1)
+cases_said (t ∷ ts) (e ∷ es) all = ap₂ (λ x xs. x ∷ xs) all.0.value.names (cases_said ts es all.1)
+
+pub few_flooded : (ts : List Members) (es : List (Named (List (List ℕ)))) → SayAll SaysDamageEntry ts es → AllByRecursion (λ e. length e.value ≤ rule.most_flooded) es
+unfolding SayAll
+few_flooded [] [] all = tt
+few_flooded [] (e ∷ es) all = absurd all
+few_flooded (t ∷ ts) [] all = absurd all
+few_flooded (t ∷ ts) (e ∷ es) all = (all.0.value.few, few_flooded ts es all.1)
 
 pub compartments_said : (ts : List Members) (es : List (Named Slab)) → SayAll SaysCompartmentEntry ts es → SayAll compartment_at ts (map (λ e. (e.name, e.value)) es)
 unfolding SayAll
@@ -98,7 +106,7 @@ pub entries_first : (doc : Members) (o : Option JobFault) → keys_fault doc ≡
 unfolding first_fault
 entries_first doc o keys entries = rw keys entries
 
-same_length : {A B C : Type 0} (f : A → C) (g : B → C) (xs : List A) (ys : List B) → map f xs ≡ map g ys → length xs ≡ length ys
+pub same_length : {A B C : Type 0} (f : A → C) (g : B → C) (xs : List A) (ys : List B) → map f xs ≡ map g ys → length xs ≡ length ys
 same_length f g xs ys h = sym (length-map xs f) ∙ ap length h ∙ length-map ys g
 
 pub room_kept : {A B C D E F G : Type 0} (item : A → B) (opening : C → D) (compartment : E → F) (xs : List A) (ys : List C) (zs : List E) (ds : List G)

@@ -1,5 +1,5 @@
 -- The entries of a job file's tables: their first fault, and what they say.
-use Rattle.std.specs.Prelude.{◌≡◌, ℕ, pos, List, [], ◌∷◌, map, Option, Some, None, ⊤}
+use Rattle.std.specs.Prelude.{◌≡◌, ◌≤◌, length, ℕ, pos, List, [], ◌∷◌, map, Option, Some, None, ⊤}
 use Rattle.toml.specs.Data.{Data, Members, no_members, as_table}
 use Rattle.hull_model.specs.declared.opening.Opening.{Opening}
 use Rattle.hull_model.specs.declared.slab.Slab.{Slab}
@@ -82,8 +82,9 @@ damage_fault entry t =
     or_later name_fault key.DamageName entry t
     or_later names_fault key.DamageFlooded rule.most_flooded entry t
 
-abbrev pub SaysFlooded : Members → List (List ℕ) → Type 0
-SaysFlooded t names = names ≡ names_of key.DamageFlooded t
+pub record SaysFlooded (t : Members) (flooded : List (List ℕ)) : Type 0 where
+  pub names : flooded ≡ names_of key.DamageFlooded t
+  pub few : length flooded ≤ rule.most_flooded
 
 abbrev pub SaysDamageEntry : Members → Named (List (List ℕ)) → Type 0
 SaysDamageEntry = SaysNamed key.DamageName SaysFlooded

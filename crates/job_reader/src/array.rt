@@ -166,6 +166,7 @@ impl Key {
     ) -> Result<Vec<Name>, JobFault>
         ensures ok { OnOk result (spec.names_fault self count entry (table_view table.now) ≡ None) }
         ensures value { IfOk result (λ v. v.items ≡ spec.names_of self (table_view table.now)) }
+        ensures few { IfOk result (λ v. length v.items ≤ count) }
         ensures err { IfErr result (λ e. (e ≡ JobFault.Memory) ⊎ (spec.names_fault self count entry (table_view table.now) ≡ Some e)) }
     {
         let key = self;

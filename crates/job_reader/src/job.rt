@@ -1,5 +1,5 @@
 // What a job has.
-ghost use Rattle.std.specs.Prelude.{◌≡◌, ◌↔◌, ◌==◌, true, [], IsSome, IfSome, OnOk, OnErr, option_map};
+ghost use Rattle.std.specs.Prelude.{◌≡◌, ◌≤◌, ◌↔◌, ◌==◌, length, true, [], IsSome, IfSome, OnOk, OnErr, option_map};
 ghost use Rattle.std.specs.Cmp.Lexicographic.{pointwise};
 ghost use Rattle.indexmap.specs.IndexMap.{insert_entry};
 ghost use Rattle.job_reader.specs.Checks.{slab_named};
@@ -27,20 +27,26 @@ pub struct Item {
     ghost limits: { is_item mass x y z free_surface ≡ true },
 }
 
-/// A damage case by the slabs that flood, in the order of their names. No two share more than a plane.
+/// The most slabs that a damage case floods.
+const MOST_SLABS: usize = 64;
+
+/// A damage case by the slabs that flood, in the order of their names. They are at most 64, and no two share more than a
+/// plane.
 #[derive(Debug, Drop)]
 pub struct Damage {
     pub slabs: Sequence<Slab>,
+    ghost few: { length slabs ≤ 64 },
     ghost apart: { are_apart slabs ≡ true },
 }
 
 impl Damage {
-    /// The case of these slabs: Some exactly where no two share more than a plane. Takes no memory.
+    /// The case of these slabs: Some exactly where they are at most 64 and no two share more than a plane. Takes no
+    /// memory.
     pub fn of(slabs: Vec<Slab>) -> Option<Damage>
-        ensures some { IsSome result ↔ (are_apart slabs.items ≡ true) }
+        ensures some { IsSome result ↔ ((length slabs.items ≤ 64) × (are_apart slabs.items ≡ true)) }
         ensures same { IfSome result (λ damage. damage.slabs ≡ slabs.items) }
     {
-        if are_apart(&slabs) {
+        if slabs.len() <= MOST_SLABS && are_apart(&slabs) {
             Some(Damage {
                 slabs: Sequence::new(slabs),
             })

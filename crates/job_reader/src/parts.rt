@@ -1,6 +1,6 @@
 // The parts of a job, from entries that have no fault.
-ghost use Rattle.std.specs.Prelude.{◌≡◌, ◌<◌, ◌^◌, true, None, Some, length, map, is_some, IfOk, IfErr};
-ghost use Rattle.std.specs.List.{list_all};
+ghost use Rattle.std.specs.Prelude.{◌≡◌, ◌≤◌, ◌<◌, ◌^◌, true, None, Some, length, map, is_some, IfOk, IfErr};
+ghost use Rattle.std.specs.List.{AllByRecursion, list_all};
 ghost use Rattle.job_reader.specs.Checks as spec;
 ghost use Rattle.hull_model.specs.Slabs.{are_apart, ends_of};
 
@@ -42,6 +42,7 @@ pub(crate) fn damages_of(
     cases: &[Named<Sequence<Name>>],
 ) -> Result<Vec<Damage>, AllocError>
     requires flooded { spec.cases_fault (map (λ c. c.0) compartments.now) (map (λ c. c.value) cases.now) ≡ None }
+    requires few { AllByRecursion (λ c. length c.value ≤ 64) cases.now }
     requires apart { spec.overlap_fault (map (λ c. ends_of c.1) compartments.now) ≡ None }
     ensures { IfOk result (λ v. map (λ c. map (spec.slab_named compartments.now) c.value) cases.now ≡ map (λ d. map Some d.slabs) v.items) }
 {

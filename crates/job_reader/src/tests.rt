@@ -161,3 +161,20 @@ fn a_case_keeps_its_slabs_apart(rt: HostRuntime) -> Result<(), Fail> {
     assert!(rt; Damage::of(Vec::new(rt.alloc())).is_some());
     Ok(())
 }
+
+// `count` slabs of 2 mm, one after another.
+fn row_of_slabs(alloc: Global, count: u8) -> Result<Vec<Slab>, Fail> {
+    let mut slabs = Vec::new(alloc);
+    for number in 0..count {
+        let aft = 2 * i64::from(number);
+        slabs.push(Slab::new(aft, aft + 2, 850).ok_or("no slab")?)?;
+    }
+    Ok(slabs)
+}
+
+#[test]
+fn a_case_floods_at_most_64_slabs(rt: HostRuntime) -> Result<(), Fail> {
+    assert!(rt; Damage::of(row_of_slabs(rt.alloc(), 64)?).is_some());
+    assert!(rt; Damage::of(row_of_slabs(rt.alloc(), 65)?).is_none());
+    Ok(())
+}

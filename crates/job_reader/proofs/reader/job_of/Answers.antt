@@ -4,7 +4,7 @@ use Rattle.toml.specs.View.{table_view}
 use Rattle.job_reader.specs.Checks.{slab_named}
 use Rattle.job_reader.specs.Entries.{SaysItem, SaysOpening}
 use Rattle.job_reader.specs.declared.key.Key.TheVariants as key
-use Rattle.job_reader.proofs.PartsFacts.{entries_are, entries_first, in_order, values_said, compartments_said, damages_said, room_kept}
+use Rattle.job_reader.proofs.PartsFacts.{entries_are, entries_first, few_flooded, in_order, values_said, compartments_said, damages_said, room_kept}
 use Rattle.job_reader.proofs.reader.job_of.Goals as goal
 
 pub returns-in_err-compartments-clause-err : goal.returns-in_err-compartments-clause-err
@@ -18,6 +18,9 @@ returns-in_err-compartments-clause-err c =
 
 pub damages_of-requires-clause-flooded : goal.damages_of-requires-clause-flooded
 damages_of-requires-clause-flooded c = rw (c.in_ok-compartments.ensures.names, c.deref.ensures.value) (in_order c.in_ok-parts.parts c.in_ok-compartments.ensures.ok).flooded
+
+pub damages_of-requires-clause-few : goal.damages_of-requires-clause-few
+damages_of-requires-clause-few c = rw c.deref.ensures.value (few_flooded _ c.in_ok-parts.parts.damages.items c.in_ok-parts.ensures.says.damages)
 
 pub damages_of-requires-clause-apart : goal.damages_of-requires-clause-apart
 damages_of-requires-clause-apart c = rw c.in_ok-compartments.ensures.ends (in_order c.in_ok-parts.parts c.in_ok-compartments.ensures.ok).apart
