@@ -2,3 +2,4 @@ pub mod Growth
 pub mod LostColumns
 pub mod LeftValues
 pub mod OneProof
+pub mod ClippedAreas
