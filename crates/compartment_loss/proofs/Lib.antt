@@ -3,3 +3,4 @@ pub mod LostColumns
 pub mod LeftValues
 pub mod OneProof
 pub mod ClippedAreas
+pub mod LostAreas
