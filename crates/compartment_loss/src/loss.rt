@@ -23,10 +23,11 @@ pub fn flood<'a>(alloc: Global, faces: &'a Faces, slabs: &[Slab]) -> Result<Floo
     requires apart { are_apart slabs.now ≡ true }
     ensures { IfOk result (λ f. (f.faces.now ≡ faces.now) × (f.slabs.items ≡ slabs.now)) }
 {
+    let boundary = faces.list();
     let mut parts = Vec::new(alloc);
     let mut rest = slabs;
     while let [slab, after @ ..] = rest {
-        push_slab(&mut parts, faces.list(), slab)?;
+        push_slab(&mut parts, boundary, slab)?;
         rest = after;
     }
     let slabs = Vec::from_slice(alloc, slabs)?;

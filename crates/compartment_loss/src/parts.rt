@@ -1,13 +1,12 @@
 // The parts of a boundary that are lost.
-ghost use Rattle.std.specs.Prelude.{◌≡◌, ◌*◌, ◌≤◌, ℤ, List, length, OnOk};
+ghost use Rattle.std.specs.Prelude.{◌≡◌, ◌*◌, ◌≤◌, List, length, OnOk};
 ghost use Rattle.std.specs.List.{AllByRecursion};
 ghost use Rattle.hull_model.specs.Faces.{IsFace};
 ghost use Rattle.hull_model.specs.Flooded.{flooded_share};
 ghost use Rattle.hull_model.specs.TriangleCut.{Triangle};
 ghost use Rattle.hull_model.specs.Waterplane.{Position};
-ghost use Rattle.hull_polyhedron.specs.Between.{LieBetween, IsBetween};
-ghost use Rattle.plane_clip.specs.Between.{HoldParts, IsPartWithin};
-ghost use Rattle.compartment_loss.specs.Flooding.{Grows, shared, face_in, faces_in};
+ghost use Rattle.plane_clip.specs.Between.{HoldParts};
+ghost use Rattle.compartment_loss.specs.Flooding.{Room, IsFaceIn, LieIn, IsPartIn, Grows, shared, face_in, faces_in};
 
 use exact_fraction::Memory;
 use hull_model::{Face, Slab};
@@ -16,7 +15,7 @@ use plane_clip::{Part, parts_of};
 /// Adds the parts of all faces in a slab.
 pub(crate) fn push_slab(parts: &mut Vec<Part>, faces: &[Face], slab: &Slab) -> Result<(), Memory>
     requires { AllByRecursion IsFace faces.now }
-    ensures { (first last : ℤ) → LieBetween first last faces.now → OnOk result (Grows first last parts.old.items parts.new.items (faces_in faces.now slab.now) (4 * length faces.now)) }
+    ensures { (r : Room) → LieIn r faces.now → OnOk result (Grows r parts.old.items parts.new.items (faces_in faces.now slab.now) (4 * length faces.now)) }
 {
     let mut rest = faces;
     while let [face, after @ ..] = rest {
@@ -29,14 +28,14 @@ pub(crate) fn push_slab(parts: &mut Vec<Part>, faces: &[Face], slab: &Slab) -> R
 /// Adds the parts of a face in a slab.
 fn push_face(parts: &mut Vec<Part>, face: &Face, slab: &Slab) -> Result<(), Memory>
     requires { IsFace face.now }
-    ensures { (first last : ℤ) → AllByRecursion (IsBetween first last) face.now.p → OnOk result (Grows first last parts.old.items parts.new.items (face_in slab.now face.now) 4) }
+    ensures { (r : Room) → IsFaceIn r face.now → OnOk result (Grows r parts.old.items parts.new.items (face_in slab.now face.now) 4) }
 {
     push_shares(parts, &parts_of(face, slab.aft, slab.fore), slab)
 }
 
 /// Adds the flooded shares of parts.
 fn push_shares(parts: &mut Vec<Part>, more: &[Part], slab: &Slab) -> Result<(), Memory>
-    ensures { (first last : ℤ) (us : List (Triangle Position)) → HoldParts more.now us → AllByRecursion (IsPartWithin first last) more.now → OnOk result (Grows first last parts.old.items parts.new.items (shared (flooded_share slab.now) us) (length more.now)) }
+    ensures { (r : Room) (us : List (Triangle Position)) → HoldParts more.now us → AllByRecursion (IsPartIn r 2) more.now → OnOk result (Grows r parts.old.items parts.new.items (shared (flooded_share slab.now) us) (length more.now)) }
 {
     let mut rest = more;
     while let [part, after @ ..] = rest {
