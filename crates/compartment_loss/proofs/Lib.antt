@@ -4,3 +4,4 @@ pub mod LeftValues
 pub mod OneProof
 pub mod ClippedAreas
 pub mod LostAreas
+pub mod LostWidths

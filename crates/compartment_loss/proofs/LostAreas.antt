@@ -156,7 +156,7 @@ shrunk n a x q c e f some share most = magnitude_within (x ⊗ c) (A ⊗ q)
     down : (n : ℤ) → neg_ℤ n ≤ℤ pos (unsigned_abs n)
     down n = omega (arith, ints)
 
-one_more : (n : ℕ) → whole (pos (suc n)) ≡ whole (pos n) ⊕ one
+pub one_more : (n : ℕ) → whole (pos (suc n)) ≡ whole (pos n) ⊕ one
 one_more n = ap (λ m. whole (pos m)) (after n) ∙ whole-add (pos n) (pos 1) ∙ ap (λ x. whole (pos n) ⊕ x) whole-one
   where
     after : (n : ℕ) → suc n ≡ n + 1
