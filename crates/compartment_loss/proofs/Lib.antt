@@ -5,3 +5,4 @@ pub mod OneProof
 pub mod ClippedAreas
 pub mod LostAreas
 pub mod LostWidths
+pub mod LeftSpans

@@ -122,7 +122,7 @@ module _ (y z : ℕ) where
       top : Fraction
       top = in_unit 20 (pos (Ends.magnitude p.az.lo p.az.hi))
 
-  parts-counted : (ps : List Part) (ts : List Shared) → HoldShares ps ts → ArePartExtents y z 3 ps → sum_over (λ p. part_area p ⊕ one) ps ≼ sum_over counted ts
+  pub parts-counted : (ps : List Part) (ts : List Shared) → HoldShares ps ts → ArePartExtents y z 3 ps → sum_over (λ p. part_area p ⊕ one) ps ≼ sum_over counted ts
   unfolding sum_over
   parts-counted [] [] h k = Order.≼_refl fractions nought
   parts-counted [] (t ∷ ts) h k = absurd h

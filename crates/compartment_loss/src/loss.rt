@@ -1,13 +1,20 @@
 // What flooded slabs leave.
 ghost use Rattle.std.specs.Prelude.{◌≡◌, ◌≤◌, true, List, length, IfOk};
+ghost use Rattle.exact_algebra.proofs.Fraction.{◌⊗◌};
 ghost use Rattle.exact_algebra.proofs.Span.{ContainsFraction};
+ghost use Rattle.exact_algebra.proofs.Whole.{whole};
 ghost use Rattle.hull_model.specs.declared.station.Station.{Station};
 ghost use Rattle.hull_model.specs.Body.{IsHull};
 ghost use Rattle.hull_model.specs.Flooded.{volume_left, mx_left, mv_left, mu_left};
 ghost use Rattle.hull_model.specs.Slabs.{are_apart};
 ghost use Rattle.hull_model.specs.Waterplane.{Waterplane};
 ghost use Rattle.hull_polyhedron.specs.FacesOf.{AreFacesOf};
+ghost use Rattle.outward_interval.specs.Ends.{EndsBelow};
+ghost use Rattle.outward_interval.specs.Widths.{IsNarrow};
 ghost use Rattle.flux_moments.specs.Planes.{IsIn};
+ghost use Rattle.flux_moments.specs.Wets.{AllFields};
+ghost use Rattle.flux_moments.specs.Widths.{reach_of};
+ghost use Rattle.compartment_loss.specs.LeftWidths.{left_bound};
 
 use crate::FloodedHull;
 use crate::parts::push_slab;
@@ -45,6 +52,16 @@ pub fn left(flood: &FloodedHull, planes: &PlaneBox) -> Wet
     ensures mx { (stations : List Station) → IsHull stations → AreFacesOf stations flood.now.faces.now → (plane : Waterplane) → IsIn planes.now plane → ContainsFraction 20 result.mx.lo result.mx.hi (mx_left plane stations flood.now.slabs.items) }
     ensures mv { (stations : List Station) → IsHull stations → AreFacesOf stations flood.now.faces.now → (plane : Waterplane) → IsIn planes.now plane → ContainsFraction 20 result.mv.lo result.mv.hi (mv_left plane stations flood.now.slabs.items) }
     ensures mu { (stations : List Station) → IsHull stations → AreFacesOf stations flood.now.faces.now → (plane : Waterplane) → IsIn planes.now plane → ContainsFraction 20 result.mu.lo result.mu.hi (mu_left plane stations flood.now.slabs.items) }
+    ensures volume_width { IsNarrow 20 (left_bound flood.now planes.now) result.volume.lo result.volume.hi }
+    ensures mx_width { IsNarrow 20 (whole flood.now.faces.now.last_x ⊗ left_bound flood.now planes.now) result.mx.lo result.mx.hi }
+    ensures mv_width { IsNarrow 20 (reach_of flood.now.faces.now planes.now ⊗ left_bound flood.now planes.now) result.mv.lo result.mv.hi }
+    ensures mu_width { IsNarrow 20 (reach_of flood.now.faces.now planes.now ⊗ left_bound flood.now planes.now) result.mu.lo result.mu.hi }
+    ensures ends { AllFields (λ s. EndsBelow 122 s.lo s.hi) result }
+    ensures volume_ends { EndsBelow 100 result.volume.lo result.volume.hi }
 {
-    measure(flood.faces, planes) - part_sums(flood.faces, &flood.parts, planes)
+    let all = measure(flood.faces, planes);
+    if flood.parts.is_empty() {
+        return all;
+    }
+    all - part_sums(flood.faces, &flood.parts, planes)
 }
