@@ -1,5 +1,5 @@
 -- The areas of the triangles that a triangle is clipped to are parts of its own, none below 0, that come to the whole of it at most.
-use Rattle.std.proofs.Common.{Bool, true, false, ℕ, ◌+◌, ◌*◌, ◌≤◌, ℤ, ◌≡◌, ◌≢◌, ◌∙◌, refl, sym, ap, subst, inl, inr, List, [], ◌∷◌, ◌++◌, length, arith}
+use Rattle.std.proofs.Common.{Bool, true, false, ℕ, ◌*◌, ◌≤◌, ℤ, ◌≡◌, ◌≢◌, ◌∙◌, refl, sym, ap, subst, inl, inr, List, [], ◌∷◌, ◌++◌, length, arith}
 use Rattle.std.proofs.lemmas.List.{length-append}
 use Rattle.std.specs.List.{flat_map}
 use Rattle.exact_algebra.specs.Expression.{var, unit, number, ◌:+◌, ◌:-◌, ◌:*◌, opposite}
@@ -111,10 +111,10 @@ module _ (p q c : Fraction) (low : q ≼ c) (high : c ≼ p) (apart : q ≺ p) w
   second_share = subst IsShare (ring_from fraction_ring (p ∷ q ∷ c ∷ r ∷ l ∷ [])
       (((var 1 :- var 2) :* var 4, ((var 0 :- var 2) :- (var 1 :- var 2)) :* var 3, unit) ∷ ((var 1 :- var 2) :* var 3, ((var 1 :- var 2) :- (var 0 :- var 2)) :* var 4, unit) ∷ [])
       (given r_is (given l_is none)) ((var 2 :- var 1) :* var 3) ((var 1 :- var 2) :* var 4) refl) (
-    Order.nonnegative-mul fractions low r_above,
-    order_from fractions (p ∷ q ∷ c ∷ r ∷ []) ((var 3, var 2, var 0) ∷ (unit, ((var 0 :- var 2) :- (var 1 :- var 2)) :* var 3, unit) ∷ []) (scaled r_above high (equal r_is no_more))
-        ((var 2 :- var 1) :* var 3) unit refl,
-  )
+        Order.nonnegative-mul fractions low r_above,
+        order_from fractions (p ∷ q ∷ c ∷ r ∷ []) ((var 3, var 2, var 0) ∷ (unit, ((var 0 :- var 2) :- (var 1 :- var 2)) :* var 3, unit) ∷ []) (scaled r_above high (equal r_is no_more))
+            ((var 2 :- var 1) :* var 3) unit refl,
+      )
 
   both_shares : IsShare (part_to p q c) × IsShare (part_to q p c)
   both_shares = (first_share, second_share)
@@ -161,22 +161,16 @@ module _ (at : ℤ) (side : Position → Bool) where
     kept-parts false false true a b c e f g = rolled-parts a b c (tip_at at c a b) (rolled-parts b c a (tip_at at c a b) (tip-parts c a b (over c a g e).0 (over c b g f).0))
     kept-parts false false false a b c e f g = Order.nonnegative-one fractions
 
+true-ne-false : true ≡ false → ⊥
+true-ne-false h = cc
+
 up : (s : Sign) → is_above s ≡ true → s ≡ above
 up above h = refl
 up level h = absurd (true-ne-false (sym h))
-  where
-    true-ne-false : true ≡ false → ⊥
-    true-ne-false h = cc
 up below h = absurd (true-ne-false (sym h))
-  where
-    true-ne-false : true ≡ false → ⊥
-    true-ne-false h = cc
 
 not_up : (s : Sign) → is_above s ≡ false → s ≡ above → ⊥
 not_up s h e = true-ne-false (sym (ap is_above e) ∙ h)
-  where
-    true-ne-false : true ≡ false → ⊥
-    true-ne-false h = cc
 
 forward-parts : (at : ℤ) (t : Triangle Position) → AreParts t one (clip_forward at t)
 forward-parts at t = kept-parts at (λ p. is_above (sign (forward_of at p))) over _ _ _ t.a t.b t.c refl refl refl

@@ -1,18 +1,18 @@
 -- The areas of the parts that are lost: for each slab no more than those of all faces, but for the rounding.
-use Rattle.std.proofs.Common.{Bool, true, false, ℕ, suc, ◌+◌, ◌*◌, ◌^◌, ◌≤◌, ℤ, pos, neg_ℤ, ◌+ℤ◌, ◌≤ℤ◌, unsigned_abs, ◌≡◌, ◌≢◌, ◌∙◌, refl, sym, ap, List, [], ◌∷◌, ◌++◌, length, arith}
+use Rattle.std.proofs.Common.{Bool, true, false, ℕ, suc, ◌+◌, ◌*◌, ◌^◌, ◌≤◌, ℤ, pos, neg_ℤ, ◌≤ℤ◌, unsigned_abs, ◌≡◌, ◌≢◌, ◌∙◌, refl, sym, ap, List, [], ◌∷◌, length, arith}
 use Rattle.std.proofs.lemmas.Int.{ints}
 use Rattle.std.proofs.lemmas.List.{length-append}
 use Rattle.std.specs.List.{AllByRecursion}
 use Rattle.exact_algebra.specs.Expression.{var, unit, number, ◌:+◌, ◌:-◌, ◌:*◌, opposite}
 use Rattle.exact_algebra.specs.OrderedField.{Sign, below, level, above}
 use Rattle.exact_algebra.proofs.Bounds as Bounds
-use Rattle.exact_algebra.proofs.Fraction.{Fraction, nought, one, ◌⊕◌, ◌⊗◌, ◌⊖◌, negative, ◌≼◌, inverse, sign, fractions, fraction_ring}
+use Rattle.exact_algebra.proofs.Fraction.{Fraction, nought, one, ◌⊕◌, ◌⊗◌, ◌⊖◌, negative, ◌≼◌, sign, fractions, fraction_ring}
 use Rattle.exact_algebra.proofs.Order as Order
 use Rattle.exact_algebra.proofs.Order.{order_from, no_more, at_most, scaled, equal}
 use Rattle.exact_algebra.proofs.Products as Ends
 use Rattle.exact_algebra.proofs.Ring.{ring}
 use Rattle.exact_algebra.proofs.Span.{ContainsFraction, positive-unit}
-use Rattle.exact_algebra.proofs.Whole.{whole, whole-nought, whole-one, whole-add, whole-negative, whole-mul, whole-≼, whole-≼_out, positive-whole, nonnegative-whole}
+use Rattle.exact_algebra.proofs.Whole.{whole, whole-nought, whole-one, whole-add, whole-negative, whole-≼, whole-≼_out, positive-whole, nonnegative-whole}
 use Rattle.hull_model.specs.declared.face.Face.{Face}
 use Rattle.hull_model.specs.declared.slab.Slab.{Slab}
 use Rattle.hull_model.specs.FaceParts.{area_y, area_z}
@@ -32,7 +32,6 @@ use Rattle.plane_clip.specs.Enclosure.{in_unit}
 use Rattle.plane_clip.specs.Extents.{ArePartExtents}
 use Rattle.plane_clip.specs.Limits.{IsThin}
 use Rattle.plane_clip.specs.Parts.{HoldsShare, face_at}
-use Rattle.plane_clip.proofs.EachLists.{each-length}
 use Rattle.flux_moments.specs.PartSizes.{part_area}
 use Rattle.flux_moments.specs.Shared.{Shared, HoldShares}
 use Rattle.flux_moments.specs.Sizes.{doubled_area}

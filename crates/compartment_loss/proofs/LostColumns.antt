@@ -1,5 +1,5 @@
 -- The columns of the parts that are lost are the flooded shares of those between the planes of the slabs.
-use Rattle.std.proofs.Common.{Bool, true, false, ◌&&◌, ℤ, ◌≡◌, refl, sym, ◌∙◌, ap, ap₂, List, [], ◌∷◌, ◌++◌, map}
+use Rattle.std.proofs.Common.{Bool, true, false, ◌&&◌, ℤ, ◌≡◌, refl, sym, ◌∙◌, ap, ap₂, List, [], ◌∷◌, map}
 use Rattle.std.specs.List.{flat_map}
 use Rattle.std.specs.Ordering.{int_eq}
 use Rattle.std.proofs.lemmas.Bool.Decides.{Decides-int_eq}
@@ -18,17 +18,13 @@ use Rattle.hull_model.specs.Waterplane.{Waterplane, Position}
 use Rattle.hull_polyhedron.specs.Columns.{triangle_at, column, column_sum}
 use Rattle.hull_polyhedron.proofs.ColumnParts.{same_columns, no_columns}
 use Rattle.hull_model.proofs.EdgeSplits.{IsLinearFunction}
+use Rattle.hull_model.proofs.ShareSplits.{sum_over-append}
 use Rattle.plane_clip.specs.Between.{is_flat, unless_flat, clipped_face}
 use Rattle.plane_clip.specs.Clipped.{clipped}
 use Rattle.plane_clip.specs.Parts.{face_at}
 use Rattle.plane_clip.proofs.ClippedSums.{clipped_make_up}
 use Rattle.flux_moments.specs.Shared.{Shared, shared_column, shared_columns}
 use Rattle.compartment_loss.specs.Flooding.{shared, face_in, faces_in, flooded_parts}
-
-sum-append : {A : Type 0} (f : A → Fraction) (xs ys : List A) → sum_over f (xs ++ ys) ≡ sum_over f xs ⊕ sum_over f ys
-unfolding sum_over
-sum-append f [] ys = ring fraction_ring (sum_over f ys ∷ []) (var 0) (number 0 :+ var 0) refl
-sum-append f (x ∷ xs) ys = ap (λ s. f x ⊕ s) (sum-append f xs ys) ∙ ring fraction_ring (f x ∷ sum_over f xs ∷ sum_over f ys ∷ []) (var 0 :+ (var 1 :+ var 2)) ((var 0 :+ var 1) :+ var 2) refl
 
 both : (a b : Bool) → (a && b) ≡ true → (a ≡ true) × (b ≡ true)
 both true true h = (refl, refl)
@@ -78,9 +74,9 @@ module _ (plane : Waterplane) (first last : ℤ) (f : Position → Fraction) (f_
   faces-sum : (s : Slab) (faces : List Face) → shared_columns plane first last f (faces_in faces s) ≡ flooded_share s ⊗ column_sum plane first last f (flat_map (parts_between s.aft s.fore) (map triangle_at (map triangle_of faces)))
   unfolding sum_over
   faces-sum s [] = ring fraction_ring (flooded_share s ∷ []) (number 0) (var 0 :* number 0) refl
-  faces-sum s (face ∷ faces) = sum-append (shared_column plane first last f) (face_in s face) (faces_in faces s) ∙ ap₂ ◌⊕◌ (face-sum s face) (faces-sum s faces)
+  faces-sum s (face ∷ faces) = sum_over-append (shared_column plane first last f) (face_in s face) (faces_in faces s) ∙ ap₂ ◌⊕◌ (face-sum s face) (faces-sum s faces)
       ∙ ring fraction_ring (flooded_share s ∷ sum_over (column plane first last f) here ∷ sum_over (column plane first last f) there ∷ []) (var 0 :* var 1 :+ var 0 :* var 2) (var 0 :* (var 1 :+ var 2)) refl
-      ∙ ap (λ x. flooded_share s ⊗ x) (sym (sum-append (column plane first last f) here there))
+      ∙ ap (λ x. flooded_share s ⊗ x) (sym (sum_over-append (column plane first last f) here there))
     where
       here : List (Triangle Position)
       here = parts_between s.aft s.fore (face_at face)
@@ -92,4 +88,4 @@ module _ (plane : Waterplane) (first last : ℤ) (f : Position → Fraction) (f_
       ≡ sum_over (λ s. flooded_share s ⊗ column_sum plane first last f (flat_map (parts_between s.aft s.fore) (map triangle_at (map triangle_of faces)))) slabs
   unfolding sum_over
   lost-sum faces [] = refl
-  lost-sum faces (s ∷ slabs) = sum-append (shared_column plane first last f) (faces_in faces s) (flooded_parts faces slabs) ∙ ap₂ ◌⊕◌ (faces-sum s faces) (lost-sum faces slabs)
+  lost-sum faces (s ∷ slabs) = sum_over-append (shared_column plane first last f) (faces_in faces s) (flooded_parts faces slabs) ∙ ap₂ ◌⊕◌ (faces-sum s faces) (lost-sum faces slabs)

@@ -47,6 +47,11 @@ pub fn flood<'a>(alloc: Global, faces: &'a Faces, slabs: &[Slab]) -> Result<Floo
 
 /// Encloses what is left, where the slabs are flooded, of the volume and the integrals of x, of the distance towards the
 /// low side and of the height, of the part of the hull that lies below a plane, for each plane of the box.
+///
+/// With n slabs and N faces the volume is no wider than n + 1 times W + N H 2^-12 mm²: W is the width that [`measure`]
+/// allows for the whole hull, and H the greatest magnitude of a level with the greatest height and half-breadth. `mx` is
+/// no wider than the last x times that, `mv` and `mu` than H times that. The ends lie below 2^122 units of 2^-20 in
+/// magnitude, those of the volume below 2^100.
 pub fn left(flood: &FloodedHull, planes: &PlaneBox) -> Wet
     ensures volume { (stations : List Station) → IsHull stations → AreFacesOf stations flood.now.faces.now → (plane : Waterplane) → IsIn planes.now plane → ContainsFraction 20 result.volume.lo result.volume.hi (volume_left plane stations flood.now.slabs.items) }
     ensures mx { (stations : List Station) → IsHull stations → AreFacesOf stations flood.now.faces.now → (plane : Waterplane) → IsIn planes.now plane → ContainsFraction 20 result.mx.lo result.mx.hi (mx_left plane stations flood.now.slabs.items) }

@@ -1,4 +1,4 @@
-use Rattle.std.proofs.Common.{rules, ◌≡◌, ◌≤◌, sym, subst, List, length, arith}
+use Rattle.std.proofs.Common.{rules, ◌≤◌, sym, subst, List, length, arith}
 use Rattle.exact_algebra.proofs.Fraction.{one}
 use Rattle.exact_algebra.proofs.Whole.{whole}
 use Rattle.hull_model.specs.Waterplane.{side_distance}
@@ -150,8 +150,7 @@ returns-clause-mu_width c =
 pub returns-clause-ends : goal.returns-clause-ends
 returns-clause-ends c =
     let whole_hull = c.measure-all.ensures.ends in
-    let lost = c.part_sums.ensures.ends in
-    (
+    let lost = c.part_sums.ensures.ends in (
       ends-less 113 121 122 (omega arith) c.sub.ensures.volume whole_hull.0 lost.0,
       ends-less 113 121 122 (omega arith) c.sub.ensures.mx whole_hull.1 lost.1,
       ends-less 113 121 122 (omega arith) c.sub.ensures.mv whole_hull.2 lost.2,
