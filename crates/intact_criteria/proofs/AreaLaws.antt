@@ -13,7 +13,7 @@ use Rattle.intact_criteria.specs.AreaToFlooding.{area_between, difference, IsFou
 use Rattle.intact_criteria.specs.Figures.{Figures, area_to}
 use Rattle.intact_criteria.specs.Downflooding.{IsDownflooding, IsWetAt, IsCandidate}
 use Rattle.intact_criteria.specs.Limit.{Contains, in_units}
-use Rattle.intact_criteria.specs.Readings.{Readings, nothing}
+use Rattle.intact_criteria.specs.Readings.{Ends, Readings, nothing}
 use Rattle.intact_criteria.proofs.AgainstLimit.{reaches_limit, below_limit}
 use Rattle.intact_criteria.proofs.DownfloodingLaws.{is_candidate, candidate_within, most_within}
 use Rattle.intact_criteria.proofs.Enclosure.{Encloses}
@@ -32,21 +32,27 @@ from_upright f k = ring fraction_ring (area_to f k ∷ []) (var 0 :- number 0) (
 nothing_contains : (x : Fraction) → x ≡ nought → Contains nothing x
 nothing_contains x e = subst (Contains nothing) (whole-nought ∙ sym e) (contains_whole 20 (pos 0))
 
-module _ (r : Readings) (f : Figures) (e : Encloses r f) where
-  pub area_contained : (from to : ℕ) → from ≤ 90 → to ≤ 90 → Contains (area_between r.separation from to) (area_to f to ⊖ area_to f from)
+-- ---- where the intervals of the separations contain those of a choice
+module _ (separation : ℕ → Ends) (f : Figures) (e : (k : ℕ) → k ≤ 90 → Contains (separation k) (f.separation k)) where
+  pub area_contained : (from to : ℕ) → from ≤ 90 → to ≤ 90 → Contains (area_between separation from to) (area_to f to ⊖ area_to f from)
   area_contained from to h k = at (from == to) (λ same. eqb-true from to same)
     where
-      apart : Contains (difference (r.separation to) (r.separation from)) (area_to f to ⊖ area_to f from)
-      apart = subst (Contains (difference (r.separation to) (r.separation from))) (area_difference f to from) (contains_difference (e.separation to k) (e.separation from h))
+      apart : Contains (difference (separation to) (separation from)) (area_to f to ⊖ area_to f from)
+      apart = subst (Contains (difference (separation to) (separation from))) (area_difference f to from) (contains_difference (e to k) (e from h))
 
       together : from ≡ to → Contains nothing (area_to f to ⊖ area_to f from)
       together same = nothing_contains (area_to f to ⊖ area_to f from)
           (ap (λ n. area_to f to ⊖ area_to f n) same ∙ ring fraction_ring (area_to f to ∷ []) (var 0 :- var 0) (number 0) refl)
 
-      at : (b : Bool) → (b ≡ true → from ≡ to) → Contains (if b then nothing else difference (r.separation to) (r.separation from)) (area_to f to ⊖ area_to f from)
+      at : (b : Bool) → (b ≡ true → from ≡ to) → Contains (if b then nothing else difference (separation to) (separation from)) (area_to f to ⊖ area_to f from)
       at true same = together (same refl)
       at false same = apart
 
+  pub whole_area_contained : (k : ℕ) → k ≤ 90 → Contains (area_between separation 0 k) (area_to f k)
+  whole_area_contained k few = subst (Contains (area_between separation 0 k)) (from_upright f k) (area_contained 0 k (omega arith) few)
+
+-- ---- an area up to the degree of downflooding
+module _ (r : Readings) (f : Figures) (e : Encloses r f) where
   module _ (base mm : ℕ) where
     few : (n m : ℕ) → n ≤ m → m ≤ 40 → n ≤ 90
     few n m h k = omega arith
@@ -65,13 +71,13 @@ module _ (r : Readings) (f : Figures) (e : Encloses r f) where
         marked m = (
           m.0,
           reaches_limit mm (area_between r.separation base K) (area_to f K ⊖ area_to f base)
-              (area_contained base K (lower base K m.0 (K_within K found flooding)) (K_within K found flooding)) m.1,
+              (area_contained r.separation f e.separation base K (lower base K m.0 (K_within K found flooding)) (K_within K found flooding)) m.1,
         )
 
     pub area_fails : (K : ℕ) (shown : Shown) → IsFound r.leaks r.separation base (in_units mm) (Fails shown) → IsDownflooding (IsWetAt f) K → base ≤ K → whole (pos mm) ≼ area_to f K ⊖ area_to f base → ⊥
     area_fails K shown found flooding reached area = elim (found.follows.0 K candidate) [
       | inl less ↦ not_both base K reached less
-      | inr below ↦ below_limit mm (area_between r.separation base K) (area_to f K ⊖ area_to f base) (area_contained base K (lower base K reached within) within) below.1 area
+      | inr below ↦ below_limit mm (area_between r.separation base K) (area_to f K ⊖ area_to f base) (area_contained r.separation f e.separation base K (lower base K reached within) within) below.1 area
     ]
       where
         candidate : IsCandidate r.leaks found.most K

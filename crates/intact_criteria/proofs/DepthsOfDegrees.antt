@@ -11,7 +11,7 @@ use Rattle.intact_criteria.specs.Brackets.{AreDegreeBrackets}
 use Rattle.intact_criteria.specs.Readings.{Ends, depth_of, depth_if_there, depth_at}
 use Rattle.intact_criteria.proofs.Decisions.{lt_or_le}
 use Rattle.intact_criteria.proofs.DegreeBrackets.{SameSpans, same_spans}
-use Rattle.intact_criteria.proofs.ReadRows.{at_place}
+use Rattle.intact_criteria.proofs.ReadRows.{at_degree}
 
 depth_same : (a b : Bracket) → SameSpans a b → (drafts : Drafts) (o : Opening) → depth_of a drafts o ≡ depth_of b drafts o
 depth_same a b e drafts o = λ i. record {
@@ -38,15 +38,12 @@ pub depths_same : (first second : List Bracket) (arms : ArmTable) (openings : Li
     → depth_at first arms openings place k ≡ depth_at second arms openings place k
 unfolding depth_at
 depths_same first second arms openings h j place k = elim (lt_or_le k 91) [
-  | inl few ↦ at (at_place first k (within (length first) h.count few)) (at_place second k (within (length second) j.count few)) (up_to k few)
+  | inl few ↦ at (at_degree first h.count k (up_to k few)) (at_degree second j.count k (up_to k few)) (up_to k few)
   | inr past ↦ ap read (nothing_past first k (beyond (length first) h.count past)) ∙ sym (ap read (nothing_past second k (beyond (length second) j.count past)))
 ]
   where
     read : Option Bracket → Ends
     read bracket = depth_if_there bracket (slice_get arms.rows k) (slice_get openings place)
-
-    within : (n : ℕ) → n ≡ 91 → k < 91 → k < n
-    within n e h = omega arith
 
     beyond : (n : ℕ) → n ≡ 91 → 91 ≤ k → n ≤ k
     beyond n e h = omega arith

@@ -24,9 +24,11 @@ pub mod Third
 pub mod Fourth
 pub mod Fifth
 pub mod Sixth
+pub mod ChoiceLaws
 pub mod MarksLaws
 pub mod VerdictLaws
 pub mod Decided
 pub mod SmallArms
 pub mod NarrowLaws
 pub mod DepthWidths
+pub mod AreasHeld

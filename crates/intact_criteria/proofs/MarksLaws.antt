@@ -1,12 +1,11 @@
 -- Marks are right at each choice of tables that hold the figures.
-use Rattle.std.proofs.Common.{◌≡◌, refl, sym, subst, [], ◌∷◌, List, length, Some, slice_get, ℕ, ◌<◌, ◌≤◌, arith}
+use Rattle.std.proofs.Common.{◌≡◌, refl, sym, subst, [], ◌∷◌, List, length, Some, slice_get, ℕ, ◌<◌, ◌≤◌}
 use Rattle.angle_bounds.specs.declared.bracket.Bracket.{Bracket}
 use Rattle.hull_model.specs.declared.opening.Opening.{Opening}
 use Rattle.hull_model.specs.declared.station.Station.{Station}
 use Rattle.hull_model.specs.declared.water.Water.{Water}
 use Rattle.loading_sheet.specs.declared.loading.Loading.{Loading}
 use Rattle.draft_bracket.specs.GridLevels.{LiesIn}
-use Rattle.dynamic_lever.specs.Levers as levers
 use Rattle.dynamic_lever.specs.declared.rows.Arm.{Arm}
 use Rattle.dynamic_lever.specs.declared.rows.ArmTable.{ArmTable}
 use Rattle.dynamic_lever.specs.declared.rows.UprightRow.{UprightRow}
@@ -22,7 +21,7 @@ use Rattle.intact_criteria.specs.Figures.{Figures, figures_of, depth_under_if_th
 use Rattle.intact_criteria.specs.Finding.{on_both, mark_of}
 use Rattle.intact_criteria.specs.Limit.{Contains}
 use Rattle.intact_criteria.specs.Marks.{IsFoundOnBoth, AreFound}
-use Rattle.intact_criteria.specs.Readings.{Readings, readings_of, gz_at, separation_at, depth_at}
+use Rattle.intact_criteria.specs.Readings.{Readings, readings_of, depth_at}
 use Rattle.intact_criteria.specs.Right.{IsRight, AreRight}
 use Rattle.intact_criteria.specs.Tables.{HoldFigures}
 use Rattle.intact_criteria.proofs.Soundness.{IsSound}
@@ -32,43 +31,17 @@ use Rattle.intact_criteria.proofs.Third.{third_rule}
 use Rattle.intact_criteria.proofs.Fourth.{fourth_rule}
 use Rattle.intact_criteria.proofs.Fifth.{fifth_rule}
 use Rattle.intact_criteria.proofs.Sixth.{sixth_rule}
+use Rattle.intact_criteria.proofs.ChoiceLaws.{gz_contained, separation_contained}
 use Rattle.intact_criteria.proofs.DegreeBrackets.{lies_in_same}
 use Rattle.intact_criteria.proofs.DepthLaws.{depth_contained}
 use Rattle.intact_criteria.proofs.Enclosure.{Encloses}
-use Rattle.intact_criteria.proofs.ReadRows.{at_place, gz_of_side, separation_of_side, depth_read}
+use Rattle.intact_criteria.proofs.ReadRows.{at_degree, at_place, depth_read}
 
 -- ---- the readings of a side contain the figures of a choice
 module _ (brackets : List Bracket) (arms : ArmTable) (upright : UprightRow) (openings : List Opening) (degrees : AreDegreeBrackets brackets) (some_rows : length arms.rows ≡ 91)
     (hull : List Station) (loading : Loading) (water : Water) (hold : HoldFigures hull loading water arms upright) (choice : Choice) (is : IsChoice arms upright choice) where
-  -- the row of a degree
-  row_at : (k : ℕ) → k ≤ 90 → (arm : Arm) × (slice_get arms.rows k ≡ Some arm)
-  row_at k few = at_place arms.rows k (within (length arms.rows) some_rows)
-    where
-      within : (n : ℕ) → n ≡ 91 → k < n
-      within n e = omega arith
-
-  bracket_at : (k : ℕ) → k ≤ 90 → (bracket : Bracket) × (slice_get brackets k ≡ Some bracket)
-  bracket_at k few = at_place brackets k (within (length brackets) degrees.count)
-    where
-      within : (n : ℕ) → n ≡ 91 → k < n
-      within n e = omega arith
-
-  gz_holds : (side : Side) (k : ℕ) → k ≤ 90 → Contains (gz_at arms side k) ((figures_of hull loading water openings choice side).gz k)
-  gz_holds side k few = at (row_at k few)
-    where
-      at : (arm : Arm) × (slice_get arms.rows k ≡ Some arm) → Contains (gz_at arms side k) ((figures_of hull loading water openings choice side).gz k)
-      at (arm, row) = gz_of_side arms side k arm row (λ sign ends. Contains ends (levers.gz loading water (plane_at choice k) hull sign))
-          (hold.gz k few arm row (choice.direction k) (choice.level k) (is.planes k few arm row))
-
-  separation_holds : (side : Side) (k : ℕ) → k ≤ 90 → Contains (separation_at arms side k) ((figures_of hull loading water openings choice side).separation k)
-  separation_holds side k few = at (row_at k few)
-    where
-      at : (arm : Arm) × (slice_get arms.rows k ≡ Some arm) → Contains (separation_at arms side k) ((figures_of hull loading water openings choice side).separation k)
-      at (arm, row) = separation_of_side arms side k arm row (λ sign ends. Contains ends (levers.separation loading water (plane_at choice k) hull sign))
-          (hold.separation k few arm row (choice.direction k) (choice.level k) (is.planes k few arm row))
-
   depth_holds : (place k : ℕ) → place < length openings → k ≤ 90 → Contains (depth_at brackets arms openings place k) (depth_under_if_there (plane_at choice k) (slice_get openings place))
-  depth_holds place k within few = at (bracket_at k few) (row_at k few) (at_place openings place within)
+  depth_holds place k within few = at (at_degree brackets degrees.count k few) (at_degree arms.rows some_rows k few) (at_place openings place within)
     where
       at : (bracket : Bracket) × (slice_get brackets k ≡ Some bracket) → (arm : Arm) × (slice_get arms.rows k ≡ Some arm) → (o : Opening) × (slice_get openings place ≡ Some o)
           → Contains (depth_at brackets arms openings place k) (depth_under_if_there (plane_at choice k) (slice_get openings place))
@@ -80,8 +53,8 @@ module _ (brackets : List Bracket) (arms : ArmTable) (upright : UprightRow) (ope
 
   side_enclosed : (side : Side) → Encloses (readings_of brackets arms upright openings side) (figures_of hull loading water openings choice side)
   side_enclosed side = record {
-    gz = gz_holds side;
-    separation = separation_holds side;
+    gz = gz_contained arms some_rows upright hull loading water hold choice is side;
+    separation = separation_contained arms some_rows upright hull loading water hold choice is side;
     gm = hold.gm choice.upright is.upright;
     openings = refl;
     depth = depth_holds;

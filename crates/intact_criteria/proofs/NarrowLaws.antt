@@ -1,5 +1,5 @@
 -- What is shown of an undecided criterion is as narrow as what is read.
-use Rattle.std.proofs.Common.{◌≡◌, ℕ, zero, suc, ◌<◌, ◌≤◌, Bool, true, false, ◌==◌, if◌then◌else◌, ℤ, pos, ◌≤ℤ◌, ◌<ℤ◌, arith}
+use Rattle.std.proofs.Common.{◌≡◌, refl, ℕ, zero, suc, ◌<◌, ◌≤◌, Bool, true, false, ◌==◌, if◌then◌else◌, ℤ, pos, ◌≤ℤ◌, ◌<ℤ◌, arith}
 use Rattle.std.proofs.lemmas.Int.{ints}
 use Rattle.exact_algebra.proofs.Fraction.{Fraction, ◌⊕◌}
 use Rattle.outward_interval.specs.declared.span.Span.{Span}
@@ -22,13 +22,16 @@ shown_narrow w ends span has n = record { width = rw (has.low, has.high) n.width
 not_nothing : (limit lo hi : ℤ) → lo ≡ pos 0 → hi ≡ pos 0 → lo <ℤ limit → limit ≤ℤ hi → ⊥
 not_nothing limit lo hi e f h k = omega (arith, ints)
 
+pub difference_narrow : (w v : Fraction) (a b : Ends) → IsNoWider w a → IsNoWider v b → IsNoWider (w ⊕ v) (difference a b)
+difference_narrow w v a b n m = narrow-difference {a = a.lo} {b = a.hi} {c = b.lo} {d = b.hi} (record { low = refl; high = refl }) n m
+
 area_narrow : (separation : ℕ → Ends) (w v : Fraction) (limit : ℤ) (base k : ℕ) (span : Span 20) → HasEnds (area_between separation base k) span → span.lo <ℤ limit → limit ≤ℤ span.hi
     → IsNoWider w (separation k) → IsNoWider v (separation base) → IsNarrow 20 (w ⊕ v) span.lo span.hi
 area_narrow separation w v limit base k span has below reaches n m = at (base == k) has
   where
     at : (b : Bool) → HasEnds (if b then nothing else difference (separation k) (separation base)) span → IsNarrow 20 (w ⊕ v) span.lo span.hi
     at true has = absurd (not_nothing limit span.lo span.hi has.low has.high below reaches)
-    at false has = narrow-difference {a = (separation k).lo} {b = (separation k).hi} {c = (separation base).lo} {d = (separation base).hi} (record { low = has.low; high = has.high }) n m
+    at false has = shown_narrow (w ⊕ v) (difference (separation k) (separation base)) span has (difference_narrow w v (separation k) (separation base) n m)
 
 module _ (w : Widths) (r : Readings) (n : AreNarrow w r) where
   interval_narrow : (number k : ℕ) → k ≤ 90 → (span : Span 20) → HasEnds (interval_of number r k) span → span.lo <ℤ limit_of number → limit_of number ≤ℤ span.hi → IsNarrow 20 (width_of number w k) span.lo span.hi

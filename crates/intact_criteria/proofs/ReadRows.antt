@@ -1,5 +1,5 @@
 -- What is read of the tables, by the definitions of the readings.
-use Rattle.std.proofs.Common.{◌≡◌, refl, sym, ap, ◌∙◌, subst, [], ◌∷◌, ℕ, zero, suc, ◌<◌, List, length, Option, Some, slice_get, arith}
+use Rattle.std.proofs.Common.{◌≡◌, refl, sym, ap, ◌∙◌, subst, [], ◌∷◌, ℕ, zero, suc, ◌<◌, ◌≤◌, List, length, Option, Some, slice_get, arith}
 use Rattle.std.specs.Prelude.{option_and_then}
 use Rattle.exact_algebra.proofs.Fraction.{Fraction}
 use Rattle.exact_fraction.specs.Bounds.{MagnitudeBelow}
@@ -20,6 +20,13 @@ pub at_place : {X : Type 0} (xs : List X) (k : ℕ) → k < length xs → (x : X
 at_place [] k h = absurd (omega arith)
 at_place (x ∷ xs) zero h = (x, refl)
 at_place (x ∷ xs) (suc k) h = at_place xs k (omega arith)
+
+-- of a list for the degrees from 0 to 90
+pub at_degree : {X : Type 0} (xs : List X) → length xs ≡ 91 → (k : ℕ) → k ≤ 90 → (x : X) × (slice_get xs k ≡ Some x)
+at_degree xs count k few = at_place xs k (within (length xs) count)
+  where
+    within : (n : ℕ) → n ≡ 91 → k < n
+    within n e = omega arith
 
 -- ---- one of two spans
 pub ends_below : (bits : ℕ) (ends : Ends) (span : Span 20) → HasEnds ends span → EndsBelow bits ends.lo ends.hi → EndsBelow bits span.lo span.hi

@@ -1,20 +1,17 @@
 -- What is read of small tables is small.
-use Rattle.std.proofs.Common.{◌≡◌, ℕ, ◌<◌, ◌≤◌, length, Some, slice_get, arith}
+use Rattle.std.proofs.Common.{◌≡◌, ℕ, ◌≤◌, length, Some, slice_get}
 use Rattle.outward_interval.specs.Ends.{EndsBelow}
 use Rattle.dynamic_lever.specs.declared.rows.Arm.{Arm}
 use Rattle.dynamic_lever.specs.declared.rows.ArmTable.{ArmTable}
 use Rattle.intact_criteria.specs.declared.finding.Side.{Side}
 use Rattle.intact_criteria.specs.Readings.{gz_at, separation_at}
 use Rattle.intact_criteria.specs.Tables.{AreSmallArms}
-use Rattle.intact_criteria.proofs.ReadRows.{at_place, each_side, gz_of_side, separation_of_side}
+use Rattle.intact_criteria.proofs.ReadRows.{at_degree, each_side, gz_of_side, separation_of_side}
 use Rattle.intact_criteria.proofs.Soundness.{IsSmall}
 
 module _ (arms : ArmTable) (some_rows : length arms.rows ≡ 91) (small : AreSmallArms arms) (side : Side) (k : ℕ) (few : k ≤ 90) where
   row : (arm : Arm) × (slice_get arms.rows k ≡ Some arm)
-  row = at_place arms.rows k (within (length arms.rows) some_rows few)
-    where
-      within : (n : ℕ) → n ≡ 91 → k ≤ 90 → k < n
-      within n e h = omega arith
+  row = at_degree arms.rows some_rows k few
 
   pub gz_small : IsSmall (gz_at arms side k)
   gz_small = gz_of_side arms side k row.0 row.1 (λ sign ends. IsSmall ends) (each_side (λ s. EndsBelow 95 s.lo s.hi) row.0.gz (small k row.0 row.1).gz)

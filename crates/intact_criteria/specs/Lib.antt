@@ -20,4 +20,5 @@ pub mod Right
 pub mod Open
 pub mod Bounds
 pub mod Narrow
+pub mod Areas
 pub mod Decided

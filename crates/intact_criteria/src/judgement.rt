@@ -1,5 +1,5 @@
 // Marks and verdict of all six criteria.
-ghost use Rattle.std.specs.Prelude.{◌≤◌, List, length};
+ghost use Rattle.std.specs.Prelude.{◌≡◌, ◌≤◌, List, length};
 ghost use Rattle.outward_interval.specs.Ends.{EndsBelow};
 ghost use Rattle.hull_model.specs.declared.station.Station.{Station};
 ghost use Rattle.hull_model.specs.declared.water.Water.{Water};
@@ -55,6 +55,7 @@ pub fn judge(arms: &ArmTable, upright: &UprightRow, openings: &[Opening]) -> Fin
     ensures undecided { ByBrackets (λ brackets. IsOpenIfUndecided (readings_of brackets arms.now upright.now openings.now) result.verdict) }
     ensures narrow { ByBrackets (λ brackets. IsAsNarrowAsRead (readings_of brackets arms.now upright.now openings.now) result.verdict) }
     ensures bounded { IsBoundedVerdict result.verdict }
+    ensures count { length arms.now.rows ≡ 91 }
 {
     // This read tells the prover that there is a row for each degree.
     let _upright = arm_at(arms, 0);

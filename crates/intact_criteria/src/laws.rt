@@ -1,4 +1,5 @@
 // Theorems about the definitions, each the contract of a function with an empty body.
+ghost use Rattle.intact_criteria.specs.Areas.{AreasHoldAtEveryChoice};
 ghost use Rattle.intact_criteria.specs.Decided.{MarksAreDecided};
 ghost use Rattle.intact_criteria.specs.Narrow.{DepthsAreNarrow, RowsAreNarrow};
 ghost use Rattle.intact_criteria.specs.Tables.{RowsSuffice};
@@ -25,4 +26,11 @@ pub fn depths_are_narrow()
 #[tactic(auto, using(crate::proofs::Rows::rows_are_narrow))]
 pub fn rows_are_narrow()
     ensures { RowsAreNarrow }
+{}
+
+/// The areas under GZ from upright to each degree from 0 to 90: the intervals of tables that hold the figures of a hull contain
+/// the exact areas at every choice of waterplanes, and are no wider than the two separations together.
+#[tactic(auto, using(crate::proofs::AreasHeld::areas_hold))]
+pub fn areas_hold_at_every_choice()
+    ensures { AreasHoldAtEveryChoice }
 {}

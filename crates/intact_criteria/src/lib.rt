@@ -25,5 +25,7 @@ mod tests;
 pub use areas::area;
 pub use finding::{Finding, Findings, Found, Mark, Shown, Side, Verdict};
 pub use judgement::judge;
-pub use laws::{depths_are_narrow, marks_are_decided, rows_are_narrow, rows_suffice};
+pub use laws::{
+    areas_hold_at_every_choice, depths_are_narrow, marks_are_decided, rows_are_narrow, rows_suffice,
+};
 pub use readings::{arm_at, gz};
