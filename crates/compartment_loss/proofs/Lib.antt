@@ -6,3 +6,4 @@ pub mod ClippedAreas
 pub mod LostAreas
 pub mod LostWidths
 pub mod LeftSpans
+pub mod UprightDepths

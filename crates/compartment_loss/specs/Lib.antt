@@ -1,2 +1,3 @@
 pub mod Flooding
 pub mod LeftWidths
+pub mod Upright

@@ -6,6 +6,7 @@ mod loss;
 mod parts;
 #[cfg(test)]
 mod tests;
+mod upright;
 
 pub use flooded_hull::FloodedHull;
 pub use loss::{flood, left};
