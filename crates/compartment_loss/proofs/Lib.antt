@@ -7,3 +7,4 @@ pub mod LostAreas
 pub mod LostWidths
 pub mod LeftSpans
 pub mod UprightDepths
+pub mod UprightColumns

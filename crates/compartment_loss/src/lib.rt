@@ -7,6 +7,9 @@ mod parts;
 #[cfg(test)]
 mod tests;
 mod upright;
+mod upright_column;
+mod upright_left;
 
 pub use flooded_hull::FloodedHull;
 pub use loss::{flood, left};
+pub use upright_left::UprightLeft;
