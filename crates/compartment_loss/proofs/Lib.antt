@@ -8,3 +8,5 @@ pub mod LostWidths
 pub mod LeftSpans
 pub mod UprightDepths
 pub mod UprightColumns
+pub mod UprightSums
+pub mod UprightBoxes
