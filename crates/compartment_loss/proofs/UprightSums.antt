@@ -15,16 +15,16 @@ use Rattle.flux_moments.specs.Planes.{IsIn}
 use Rattle.flux_moments.specs.Sizes.{BoxSize, HasSize, Reaches, AreReached, spread, doubled_area, volume_part, length_part}
 use Rattle.flux_moments.specs.declared.plane_box.PlaneBox.{PlaneBox}
 use Rattle.flux_moments.proofs.ColumnSums.{IsColumnSum, one_list, sum-start, sum-step, sum-allowed, narrow-start, narrow-step, reached_at}
-use Rattle.compartment_loss.specs.declared.upright_sums.UprightLeft.{UprightLeft}
+use Rattle.compartment_loss.specs.declared.upright_wet.UprightWet.{UprightWet}
 
 module _ (planes : PlaneBox) (first last : ℤ) (faces : List Face) where
-  pub record AreUprightSums (count : ℕ) (sums : UprightLeft) : Type 0 where
+  pub record AreUprightSums (count : ℕ) (sums : UprightWet) : Type 0 where
     pub volume : IsColumnSum planes first last faces (λ plane. column_volume plane first last) 2 (2 ^ 79) count sums.volume
     pub mx : IsColumnSum planes first last faces (λ plane. column_integral plane first last (λ p. p.x)) 2 (3 * 2 ^ 97) count sums.mx
     pub volume_width : (b : BoxSize) (h : Fraction) → AreReached planes faces b h → IsNarrow 20 (sum_over (λ f. volume_part (spread b h) (doubled_area f)) (take count faces)) sums.volume.lo sums.volume.hi
     pub mx_width : (b : BoxSize) (h : Fraction) → AreReached planes faces b h → IsNarrow 20 (sum_over (λ f. length_part (whole last) (spread b h) (doubled_area f)) (take count faces)) sums.mx.lo sums.mx.hi
 
-  pub upright-start : (sums : UprightLeft) → (sums.volume.lo ≡ pos 0) × (sums.volume.hi ≡ pos 0) → (sums.mx.lo ≡ pos 0) × (sums.mx.hi ≡ pos 0) → AreUprightSums 0 sums
+  pub upright-start : (sums : UprightWet) → (sums.volume.lo ≡ pos 0) × (sums.volume.hi ≡ pos 0) → (sums.mx.lo ≡ pos 0) × (sums.mx.hi ≡ pos 0) → AreUprightSums 0 sums
   upright-start sums e f = record {
     volume = sum-start (IsIn planes) (λ plane. column_volume plane first last) 2 (2 ^ 79) (one_list faces) sums.volume e;
     mx = sum-start (IsIn planes) (λ plane. column_integral plane first last (λ p. p.x)) 2 (3 * 2 ^ 97) (one_list faces) sums.mx f;
@@ -32,7 +32,7 @@ module _ (planes : PlaneBox) (first last : ℤ) (faces : List Face) where
     mx_width = λ b h are. narrow-start _ faces sums.mx f;
   }
 
-  module _ (count : ℕ) (sums column : UprightLeft) (more : count < length faces) (before : AreUprightSums count sums)
+  module _ (count : ℕ) (sums column : UprightWet) (more : count < length faces) (before : AreUprightSums count sums)
       (volume_ends : EndsAtMost (2 ^ 79) column.volume.lo column.volume.hi) (mx_ends : EndsAtMost (3 * 2 ^ 97) column.mx.lo column.mx.hi) where
     pub volume-fits : length faces < 2 ^ 14 → EndsBelow 126 (sums.volume.lo +ℤ column.volume.lo) (sums.volume.hi +ℤ column.volume.hi)
     volume-fits few = sum-allowed (IsIn planes) (λ plane. column_volume plane first last) 2 (2 ^ 79) (one_list faces) count sums.volume column.volume more before.volume volume_ends (2 ^ 14) few (omega arith)
@@ -40,7 +40,7 @@ module _ (planes : PlaneBox) (first last : ℤ) (faces : List Face) where
     pub mx-fits : length faces < 2 ^ 14 → EndsBelow 126 (sums.mx.lo +ℤ column.mx.lo) (sums.mx.hi +ℤ column.mx.hi)
     mx-fits few = sum-allowed (IsIn planes) (λ plane. column_integral plane first last (λ p. p.x)) 2 (3 * 2 ^ 97) (one_list faces) count sums.mx column.mx more before.mx mx_ends (2 ^ 14) few (omega arith)
 
-    pub upright-more : (other : Face) (result : UprightLeft)
+    pub upright-more : (other : Face) (result : UprightWet)
         → ((plane : Waterplane) → IsIn planes plane → ContainsFraction 20 column.volume.lo column.volume.hi (column_volume plane first last (get_or faces count other) ⊗ whole (pos 2)))
         → ((plane : Waterplane) → IsIn planes plane → ContainsFraction 20 column.mx.lo column.mx.hi (column_integral plane first last (λ p. p.x) (get_or faces count other) ⊗ whole (pos 2)))
         → ((b : BoxSize) (h : Fraction) → HasSize planes b → one ≼ h → AllByRecursion (Reaches b h) (get_or faces count other).p

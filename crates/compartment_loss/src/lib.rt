@@ -9,9 +9,9 @@ mod tests;
 mod upright;
 mod upright_column;
 mod upright_left;
-mod upright_sums;
+mod upright_wet;
 
 pub use flooded_hull::FloodedHull;
 pub use loss::{flood, left};
 pub use upright_left::left_at;
-pub use upright_sums::UprightLeft;
+pub use upright_wet::UprightWet;

@@ -1,5 +1,5 @@
 // Flooded slabs. The values were computed by a program that cuts the tetrahedra by exact fractions.
-use crate::{FloodedHull, flood, left};
+use crate::{FloodedHull, flood, left, left_at};
 use angle_bounds::{Triple, exact};
 use flux_moments::{PlaneBox, Wet, measure};
 use hull_model::{Hull, Point, Points, Slab, Station};
@@ -104,6 +104,16 @@ fn hold(wet: &Wet, cells: &[i128], width: i128) -> bool {
         && is_around(wet.mu, cells[6], cells[7], far)
 }
 
+// Whether that of the upright plane with these levels holds the first four values.
+fn hold_upright(flooded: &FloodedHull, aft: i64, fore: i64, cells: &[i128], width: i128) -> bool {
+    if aft.unsigned_abs() > 1 << 30 || fore.unsigned_abs() > 1 << 30 || cells.len() != 8 {
+        return false;
+    }
+    let wet = left_at(flooded, aft, fore);
+    is_around(wet.volume, cells[0], cells[1], width)
+        && is_around(wet.mx, cells[2], cells[3], width.saturating_mul(1 << 17))
+}
+
 // What is left at the planes of a table, level where the hull is heeled, is no wider than a cubic metre.
 fn check(
     rt: &impl Abort,
@@ -127,6 +137,10 @@ fn check(
         };
         let wet = left(flooded, &planes.expect(rt, "levels"));
         assert!(rt; hold(&wet, &cells, 1000000000 << 20), "{line}");
+        assert!(rt;
+            heeled || hold_upright(flooded, aft, fore, &cells, 1000000000 << 20),
+            "{line}"
+        );
     }
     Ok(())
 }

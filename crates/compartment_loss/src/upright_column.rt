@@ -15,7 +15,7 @@ ghost use Rattle.flux_moments.specs.Planes.{IsIn};
 ghost use Rattle.flux_moments.specs.Sizes.{BoxSize, HasSize, Reaches, spread, doubled_area, volume_part, length_part};
 ghost use Rattle.compartment_loss.specs.Upright.{IsUpright};
 
-use crate::UprightLeft;
+use crate::UprightWet;
 use crate::upright::{Way, depth_of};
 use flux_moments::PlaneBox;
 use hull_model::{Face, Node};
@@ -24,7 +24,7 @@ use plane_clip::wet_depths;
 
 /// Twice the volume of the column between the wet part of a face and an upright plane, and twice the integral of x over
 /// it, with their signs. A face that is seen edgewise from above has none.
-pub(crate) fn column(face: &Face, planes: &PlaneBox, way: Way) -> UprightLeft
+pub(crate) fn column(face: &Face, planes: &PlaneBox, way: Way) -> UprightWet
     requires face { IsFace face.now }
     requires between { AllByRecursion (λ n. (way.first ≤ℤ n.x) × (n.x ≤ℤ way.last)) face.now.p }
     requires upright { IsUpright planes.now }
@@ -43,7 +43,7 @@ pub(crate) fn column(face: &Face, planes: &PlaneBox, way: Way) -> UprightLeft
 }
 
 /// The same of any face.
-fn seen_column(face: &Face, planes: &PlaneBox, way: Way) -> UprightLeft
+fn seen_column(face: &Face, planes: &PlaneBox, way: Way) -> UprightWet
     requires face { IsFace face.now }
     requires between { AllByRecursion (λ n. (way.first ≤ℤ n.x) × (n.x ≤ℤ way.last)) face.now.p }
     requires upright { IsUpright planes.now }
@@ -63,7 +63,7 @@ fn seen_column(face: &Face, planes: &PlaneBox, way: Way) -> UprightLeft
         + at_place(means.weighted[1], q)
         + at_place(means.weighted[2], r);
     let factor = factor_of(face);
-    UprightLeft {
+    UprightWet {
         volume: means.depth.times_whole(factor),
         mx: moment.times_whole(factor),
     }
@@ -89,12 +89,12 @@ fn factor_of(face: &Face) -> i128
 }
 
 /// No volume.
-pub(crate) fn nothing() -> UprightLeft
+pub(crate) fn nothing() -> UprightWet
     ensures volume { (result.volume.lo ≡ pos 0) × (result.volume.hi ≡ pos 0) }
     ensures mx { (result.mx.lo ≡ pos 0) × (result.mx.hi ≡ pos 0) }
 {
     match Span::new(0, 0) {
-        Some(none) => UprightLeft {
+        Some(none) => UprightWet {
             volume: none,
             mx: none,
         },

@@ -26,7 +26,7 @@ ghost use Rattle.compartment_loss.specs.Upright.{IsUprightPlane, IsUprightBox, I
 
 use crate::upright::Way;
 use crate::upright_column::{column, nothing};
-use crate::{FloodedHull, UprightLeft};
+use crate::{FloodedHull, UprightWet};
 use flux_moments::{PlaneBox, part_sums};
 use hull_model::Face;
 use hull_polyhedron::Faces;
@@ -37,7 +37,7 @@ use hull_polyhedron::Faces;
 /// The ends lie below 2^100 units of 2^-20 in magnitude for the volume, and below 2^122 for the integral of x. It costs
 /// far less than `left`: a face needs the means of the depths at its corners alone, and one that is seen edgewise from
 /// above nothing.
-pub fn left_at(flood: &FloodedHull, a: i64, f: i64) -> UprightLeft
+pub fn left_at(flood: &FloodedHull, a: i64, f: i64) -> UprightWet
     requires a { unsigned_abs a ≤ 2 ^ 30 }
     requires f { unsigned_abs f ≤ 2 ^ 30 }
     ensures volume { (stations : List Station) → IsHull stations → AreFacesOf stations flood.now.faces.now → (plane : Waterplane) → IsUprightPlane a f plane → ContainsFraction 20 result.volume.lo result.volume.hi (volume_left plane stations flood.now.slabs.items) }
@@ -53,7 +53,7 @@ pub fn left_at(flood: &FloodedHull, a: i64, f: i64) -> UprightLeft
         return all;
     }
     let lost = part_sums(flood.faces, &flood.parts, &planes);
-    UprightLeft {
+    UprightWet {
         volume: all.volume - lost.volume,
         mx: all.mx - lost.mx,
     }
@@ -72,7 +72,7 @@ fn box_at(a: i64, f: i64) -> PlaneBox
 }
 
 /// The volume below an upright plane, and the integral of x.
-fn body_at(faces: &Faces, planes: &PlaneBox) -> UprightLeft
+fn body_at(faces: &Faces, planes: &PlaneBox) -> UprightWet
     requires { IsUpright planes.now }
     ensures volume { (stations : List Station) → IsHull stations → AreFacesOf stations faces.now → (plane : Waterplane) → IsIn planes.now plane → ContainsFraction 20 result.volume.lo result.volume.hi (submerged.submerged_volume plane stations) }
     ensures mx { (stations : List Station) → IsHull stations → AreFacesOf stations faces.now → (plane : Waterplane) → IsIn planes.now plane → ContainsFraction 20 result.mx.lo result.mx.hi (submerged.mx plane stations) }
@@ -86,14 +86,14 @@ fn body_at(faces: &Faces, planes: &PlaneBox) -> UprightLeft
         last: faces.last_x(),
     };
     let sums = column_sums(faces.list(), planes, way);
-    UprightLeft {
+    UprightWet {
         volume: sums.volume.over_whole(2),
         mx: sums.mx.over_whole(2),
     }
 }
 
 /// The sums over the columns of faces: twice the volume, and twice the integral of x.
-fn column_sums(faces: &[Face], planes: &PlaneBox, way: Way) -> UprightLeft
+fn column_sums(faces: &[Face], planes: &PlaneBox, way: Way) -> UprightWet
     requires limits { AllByRecursion IsFace faces.now }
     requires between { LieBetween way.first way.last faces.now }
     requires few { length faces.now < 2 ^ 14 }
@@ -108,7 +108,7 @@ fn column_sums(faces: &[Face], planes: &PlaneBox, way: Way) -> UprightLeft
     let mut sums = nothing();
     for face in faces {
         let column = column(face, planes, way);
-        sums = UprightLeft {
+        sums = UprightWet {
             volume: sums.volume + column.volume,
             mx: sums.mx + column.mx,
         };

@@ -21,17 +21,21 @@ use Rattle.compartment_loss.proofs.upright_column.seen_column.Goals as goal
 
 pub times_whole-requires : goal.times_whole-requires
 times_whole-requires c =
-    let factor : SFits w128 c.factor_of-factor.result = record { sfits = c.factor_of-factor.type_inv } in
-    (omega arith, simp to_z-of_z (multiple_fits (2 ^ 42) (2 ^ 37) c.factor_of-factor.result (omega arith) (less 42 c.wet_depths-means.ensures.depth_bounded)
-    (factor_small c.args.face.now c.requires.face c.factor_of-factor.ensures)))
+    let factor : SFits w128 c.factor_of-factor.result = record { sfits = c.factor_of-factor.type_inv } in (
+      omega arith,
+      simp to_z-of_z (multiple_fits (2 ^ 42) (2 ^ 37) c.factor_of-factor.result (omega arith) (less 42 c.wet_depths-means.ensures.depth_bounded)
+          (factor_small c.args.face.now c.requires.face c.factor_of-factor.ensures)),
+    )
 
 pub times_whole-requires-2 : goal.times_whole-requires-2
 times_whole-requires-2 c =
     let factor : SFits w128 c.factor_of-factor.result = record { sfits = c.factor_of-factor.type_inv } in
     let two = sum_ends (2 ^ 60) (2 ^ 60) c.at_place.ensures.ends c.at_place-2.ensures.ends c.add.ensures in
-    let three = sum_ends (2 ^ 60 + 2 ^ 60) (2 ^ 60) two c.at_place-3.ensures.ends c.add-moment.ensures in
-    (omega arith, simp to_z-of_z (multiple_fits ((2 ^ 60 + 2 ^ 60) + 2 ^ 60) (2 ^ 37) c.factor_of-factor.result (omega arith) three
-    (factor_small c.args.face.now c.requires.face c.factor_of-factor.ensures)))
+    let three = sum_ends (2 ^ 60 + 2 ^ 60) (2 ^ 60) two c.at_place-3.ensures.ends c.add-moment.ensures in (
+      omega arith,
+      simp to_z-of_z (multiple_fits ((2 ^ 60 + 2 ^ 60) + 2 ^ 60) (2 ^ 37) c.factor_of-factor.result (omega arith) three
+          (factor_small c.args.face.now c.requires.face c.factor_of-factor.ensures)),
+    )
 
 pub returns-clause-volume_ends : goal.returns-clause-volume_ends
 returns-clause-volume_ends c =
