@@ -1,12 +1,12 @@
 -- The columns between a face and an upright plane: their values, and how wide they are.
-use Rattle.std.proofs.Common.{◌≡◌, ◌≢◌, ◌∙◌, refl, sym, ap, ap₂, [], ◌∷◌, ℕ, ◌+◌, ◌*◌, ◌^◌, ◌<◌, ◌≤◌, ℤ, pos, neg_ℤ, ◌+ℤ◌, ◌-ℤ◌, ◌*ℤ◌, ◌≤ℤ◌, unsigned_abs, arith}
+use Rattle.std.proofs.Common.{◌≡◌, ◌≢◌, ◌∙◌, refl, sym, ap, ap₂, [], ◌∷◌, ℕ, ◌+◌, ◌^◌, ◌<◌, ◌≤◌, ℤ, pos, neg_ℤ, ◌+ℤ◌, ◌-ℤ◌, ◌*ℤ◌, ◌≤ℤ◌, unsigned_abs, arith}
 use Rattle.std.proofs.lemmas.Int.{ints}
 use Rattle.exact_algebra.specs.Expression.{var, unit, number, ◌:+◌, ◌:-◌, ◌:*◌, opposite}
 use Rattle.exact_algebra.specs.OrderedField.{below}
-use Rattle.exact_algebra.proofs.Fraction.{Fraction, nought, one, ◌⊕◌, ◌⊗◌, ◌⊖◌, negative, sign, fractions, fraction_ring, ◌≼◌}
+use Rattle.exact_algebra.proofs.Fraction.{Fraction, nought, ◌⊕◌, ◌⊗◌, negative, sign, fractions, fraction_ring, ◌≼◌}
 use Rattle.exact_algebra.proofs.Order as Order
 use Rattle.exact_algebra.proofs.Order.{order_from, no_more, at_most, scaled}
-use Rattle.exact_algebra.proofs.Ring.{ring, ring_from, given, none}
+use Rattle.exact_algebra.proofs.Ring.{ring}
 use Rattle.exact_algebra.proofs.Span.{ContainsFraction, in_units, positive-unit, contains_whole}
 use Rattle.exact_algebra.proofs.Whole.{whole, whole-nought, whole-negative, whole-≼, nonnegative-whole}
 use Rattle.exact_fraction.specs.Bounds.{MagnitudeBelow}
@@ -22,11 +22,11 @@ use Rattle.plane_clip.specs.Enclosure.{mean_at, IsNoWider}
 use Rattle.plane_clip.proofs.FaceSizes.{areas_below}
 use Rattle.flux_moments.specs.Columns.{column_volume, column_integral}
 use Rattle.flux_moments.specs.Limits.{EndsAtMost, EndsLess}
-use Rattle.flux_moments.specs.Planes.{IsIn, cosine, sine}
+use Rattle.flux_moments.specs.Planes.{IsIn}
 use Rattle.flux_moments.specs.Sizes.{AreSizes, doubled_area, volume_part, length_part}
 use Rattle.flux_moments.specs.declared.plane_box.PlaneBox.{PlaneBox}
 use Rattle.flux_moments.proofs.FaceColumns.{depths, doubled_seen, volume_doubled, moment_doubled}
-use Rattle.flux_moments.proofs.FaceWidths.{width_at, width_narrow, some, far}
+use Rattle.flux_moments.proofs.FaceWidths.{width_at, some, far}
 use Rattle.flux_moments.proofs.MeanWidths.{depths_of, depth-narrow, weighted_widths, nonnegative_weighted_width}
 use Rattle.compartment_loss.specs.Upright.{IsUpright}
 use Rattle.compartment_loss.proofs.UprightDepths.{cosine_is, sine_is}

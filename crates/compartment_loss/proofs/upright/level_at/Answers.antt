@@ -1,9 +1,8 @@
-use Rattle.std.proofs.Common.{rules, ◌≡◌, sym, ℤ, pos, ◌-ℤ◌, ◌≤ℤ◌}
+use Rattle.std.proofs.Common.{rules, ℤ, pos, ◌-ℤ◌, ◌≤ℤ◌}
 use Rattle.hull_model.specs.Body.{IsWithin}
 use Rattle.std.proofs.lemmas.Int.{to_z-of_z}
 use Rattle.std.specs.Int.{w64}
 use mir.Val.{SFits}
-use Rattle.flux_moments.specs.declared.plane_box.PlaneBox.{PlaneBox}
 use Rattle.flux_moments.proofs.Levels.{fits_within, before_within, behind_within, length_is, length_within, size_joined, level_fits}
 use Rattle.compartment_loss.specs.declared.upright.Way.{Way}
 use Rattle.compartment_loss.proofs.upright.level_at.Goals as goal

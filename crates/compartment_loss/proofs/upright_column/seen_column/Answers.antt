@@ -1,8 +1,8 @@
-use Rattle.std.proofs.Common.{refl, ◌≡◌, ◌∙◌, ◌+◌, ◌*◌, ◌^◌, [], ◌∷◌, get_or, subst, ap, unsigned_abs, arith}
+use Rattle.std.proofs.Common.{refl, ◌+◌, ◌*◌, ◌^◌, [], ◌∷◌, get_or, subst, unsigned_abs, arith}
 use Rattle.std.proofs.lemmas.Int.{to_z-of_z}
 use Rattle.std.specs.Int.{w128}
 use mir.Val.{SFits}
-use Rattle.exact_algebra.proofs.Fraction.{Fraction, ◌⊗◌}
+use Rattle.exact_algebra.proofs.Fraction.{Fraction}
 use Rattle.exact_algebra.proofs.Span.{ContainsFraction}
 use Rattle.exact_algebra.proofs.Whole.{whole}
 use Rattle.hull_model.specs.WetMean.{weighted_depth}

@@ -1,12 +1,8 @@
 use Rattle.std.proofs.Common.{◌+◌, ◌*◌, ◌^◌, ◌∙◌, arith}
 use Rattle.std.proofs.lemmas.Int.{to_z-of_z}
 use Rattle.std.specs.Int.{w64}
-use mir.Val.{SFits}
-use Rattle.exact_algebra.proofs.Fraction.{Fraction}
-use Rattle.exact_algebra.proofs.Whole.{whole}
-use Rattle.outward_interval.specs.Widths.{IsNarrow}
 use Rattle.flux_moments.specs.Columns.{columns_volume, columns_mx}
-use Rattle.flux_moments.specs.Sizes.{doubled_area, volume_part, length_part}
+use Rattle.flux_moments.specs.Sizes.{doubled_area, volume_part}
 use Rattle.flux_moments.proofs.ColumnSums.{quotient_at_most}
 use Rattle.flux_moments.proofs.Measured.{measured, volume_measured, mx_measured}
 use Rattle.flux_moments.proofs.ProductEnds.{at_most_below}

@@ -1,4 +1,4 @@
-use Rattle.std.proofs.Common.{rules, ◌≡◌, ◌≤◌, sym, subst, List, length, arith}
+use Rattle.std.proofs.Common.{rules, ◌≤◌, sym, subst, List, length}
 use Rattle.std.proofs.lemmas.Int.{to_z-of_z}
 use Rattle.std.specs.Int.{w64}
 use mir.Val.{SFits}
@@ -10,8 +10,7 @@ use Rattle.plane_clip.specs.declared.part.Part.{Part}
 use Rattle.flux_moments.specs.Shared.{HoldShares, shared_column}
 use Rattle.flux_moments.specs.Widths.{size_of, reach_of}
 use Rattle.compartment_loss.specs.Flooding.{flooded_parts}
-use Rattle.compartment_loss.specs.Upright.{IsUprightBox}
-use Rattle.compartment_loss.proofs.LeftSpans.{contains-rest, contains-all, ends-less, not_empty, by-kept}
+use Rattle.compartment_loss.proofs.LeftSpans.{contains-rest, contains-all, not_empty, by-kept}
 use Rattle.compartment_loss.proofs.LeftValues.{volume_is_left, mx_is_left}
 use Rattle.compartment_loss.proofs.LostWidths.{AreLost, are-lost, some_last, volume-wider, bound-more, volume-narrow, left-narrow, lost_bound}
 use Rattle.compartment_loss.proofs.OneProof.{narrow-prop}
