@@ -1,0 +1,10 @@
+pub mod Signs
+pub mod Looked
+pub mod Moves
+pub mod Slopes
+pub mod Apart
+pub mod Tries
+pub mod OnePlane
+pub mod Balanced
+pub mod Residues
+pub mod Shown
