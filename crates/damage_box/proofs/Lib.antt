@@ -4,7 +4,7 @@ pub mod Moves
 pub mod Slopes
 pub mod Apart
 pub mod Tries
-pub mod OnePlane
 pub mod Balanced
 pub mod Residues
+pub mod SomeLeft
 pub mod Shown

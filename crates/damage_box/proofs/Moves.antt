@@ -1,5 +1,5 @@
 -- Corners that move inwards.
-use Rattle.std.proofs.Common.{◌≡◌, inl, inr, ℤ, pos, negsuc, ◌+ℤ◌, ◌-ℤ◌, ◌≤ℤ◌, ◌<ℤ◌, ◌+◌, ◌<◌, ◌≤◌, ◌^◌, refl, arith}
+use Rattle.std.proofs.Common.{◌≡◌, ◌⊎◌, subst, neg_ℤ, inl, inr, ℤ, pos, negsuc, ◌+ℤ◌, ◌-ℤ◌, ◌≤ℤ◌, ◌<ℤ◌, ◌+◌, ◌<◌, ◌≤◌, ◌^◌, refl, arith}
 use Rattle.std.specs.Int.RustNames.{unsigned_abs}
 use Rattle.std.proofs.lemmas.Int.{ints}
 use mir.Syntax.{w64}
@@ -12,6 +12,10 @@ use Rattle.damage_box.specs.Balance.{Balance, Rises, IsLevel, IsFar, HasSigns, I
 pub far_fits : (z : ℤ) → IsFar z → SFits w64 z
 far_fits (pos n) h = record { sfits = omega (arith, ints, h.from, h.to) }
 far_fits (negsuc n) h = record { sfits = omega (arith, ints, h.from, h.to) }
+
+record IsDoublyFar (z : ℤ) : Type 0 where
+  from : neg_ℤ (pos (2 ^ 41)) ≤ℤ z
+  to : z ≤ℤ pos (2 ^ 41)
 
 pub far : {z : ℤ} → IsLevel z → IsFar z
 far h = record { from = omega (arith, ints, h.from); to = omega (arith, ints, h.to) }
@@ -116,7 +120,7 @@ pub back_limits : {b : Balance} {a f c g a1 f2 : ℤ} → AreLimits a f c g → 
 back_limits l i = record { a_level = l.least_level; f_level = l.most_level; most_level = level_f l i; least_level = level_a l i; a_to = i.f_from; f_from = i.a_to }
 
 -- the levels of a box
-small : {z : ℤ} → IsLevel z → unsigned_abs z ≤ 2 ^ 30
+pub small : {z : ℤ} → IsLevel z → unsigned_abs z ≤ 2 ^ 30
 small {z} h = go z h
   where
     go : (z : ℤ) → IsLevel z → unsigned_abs z ≤ 2 ^ 30
@@ -125,3 +129,27 @@ small {z} h = go z h
 
 pub levels : {a1 a2 f1 f2 : ℤ} → IsLevel a1 → IsLevel a2 → IsLevel f1 → IsLevel f2 → a1 ≤ℤ a2 → f1 ≤ℤ f2 → AreLevels a1 a2 f1 f2
 levels h i j k a f = record { aft = a; fore = f; first = small h; second = small i; third = small j; fourth = small k }
+
+-- neighbours at the end of a search
+pub between_fits : {low high : ℤ} (failed passed : ℤ) → IsFar low → IsFar high → low ≤ℤ failed → failed <ℤ passed → passed ≤ℤ high → SFits w64 (passed -ℤ failed)
+between_fits failed passed l h from order to = doubly_far (passed -ℤ failed) (record { from = omega (arith, ints, order); to = omega (arith, ints, l.from, h.to, from, to) })
+  where
+    doubly_far : (z : ℤ) → IsDoublyFar z → SFits w64 z
+    doubly_far (pos n) h = record { sfits = omega (arith, ints, h.from, h.to) }
+    doubly_far (negsuc n) h = record { sfits = omega (arith, ints, h.from, h.to) }
+
+pub last_step : (P : ℤ → Type 0) (failed passed low : ℤ) → failed <ℤ passed → (passed -ℤ failed) ≤ℤ pos 1 → (failed ≡ low) ⊎ P failed → (passed ≡ low +ℤ pos 1) ⊎ P (passed -ℤ pos 1)
+last_step P failed passed low order near lower = elim lower [ inl e ↦ inl (omega (arith, ints, e)) | inr k ↦ inr (subst P same k) ]
+  where
+    same : failed ≡ passed -ℤ pos 1
+    same = omega (arith, ints)
+
+-- a corner to which a search jumps
+pub jump : {b : Balance} {a f most least c g : ℤ} → HasSigns b c g → a ≤ℤ c → c ≤ℤ most → least ≤ℤ g → g ≤ℤ f → IsInward b a f most least c g
+jump s h i j k = record { signs = s; a_from = h; a_to = i; f_from = j; f_to = k }
+
+pub jump_a : {a f most least c : ℤ} → AreLimits a f most least → a ≤ℤ c → c ≤ℤ most → IsLevel c
+jump_a l h i = record { from = omega (arith, ints, l.a_level.from, h); to = omega (arith, ints, l.most_level.to, i) }
+
+pub jump_f : {a f most least g : ℤ} → AreLimits a f most least → least ≤ℤ g → g ≤ℤ f → IsLevel g
+jump_f l h i = record { from = omega (arith, ints, l.least_level.from, h); to = omega (arith, ints, l.f_level.to, i) }

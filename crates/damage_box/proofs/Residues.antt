@@ -11,15 +11,25 @@ use Rattle.hull_model.specs.declared.station.Station.{Station}
 use Rattle.hull_model.specs.declared.water.Water.{Water}
 use Rattle.hull_model.specs.Flooded.{mx_left}
 use Rattle.outward_interval.specs.Widths.{IsNarrow}
+use Rattle.plane_clip.specs.Enclosure.{in_unit}
+use Rattle.flux_moments.proofs.MeanWidths.{in_unit-in}
 use Rattle.flux_moments.specs.declared.plane_box.PlaneBox.{PlaneBox}
 use Rattle.compartment_loss.specs.LeftWidths.{left_bound}
 use Rattle.compartment_loss.specs.declared.flooded_hull.FloodedHull.{FloodedHull}
 use Rattle.loading_sheet.specs.declared.loading.Loading.{Loading}
 use Rattle.loading_sheet.specs.Centre.{displaced, x_g}
-use Rattle.damage_box.specs.Planes.{plane_at, IsBoxAt}
+use Rattle.compartment_loss.specs.Upright.{IsUprightPlane, IsUprightBox}
+use Rattle.damage_box.specs.Planes.{plane_at}
 use Rattle.damage_box.specs.Residuals.{IsHullOf, volume_at, residual_width}
 use Rattle.damage_box.specs.Reading.{Encloses}
 use Rattle.damage_box.specs.ShipBalance.{balance_of}
+
+-- the plane of grid levels lies in the box of it
+pub upright : (a f : ℤ) → IsUprightPlane a f (plane_at a f)
+upright a f = record { direction = refl; aft = at_level a; fore = at_level f }
+  where
+    at_level : (z : ℤ) → ContainsFraction 10 z z (in_unit 10 z)
+    at_level z = record { from = Order.≼_same fractions (sym (in_unit-in 10 z)); to = Order.≼_same fractions (in_unit-in 10 z) }
 
 -- a residual about a place x up to X, of which the volume is no wider than B, the moment than X B, and what is owed than a unit
 residual_narrow : (B : Fraction) (x X v_lo v_hi m_lo m_hi o_lo o_hi lo hi : ℤ) → pos 0 ≤ℤ X → x ≤ℤ X → v_lo ≤ℤ v_hi
@@ -51,8 +61,8 @@ residual_narrow B x X v_lo v_hi m_lo m_hi o_lo o_hi lo hi from within order volu
 module _ (flood : FloodedHull) (loading : Loading) (water : Water) (a f v_lo v_hi m_lo m_hi o_lo o_hi lo hi : ℤ)
     (volume : (stations : List Station) → IsHullOf flood stations → ContainsFraction 20 v_lo v_hi (volume_at stations flood.slabs.items a f))
     (mx : (stations : List Station) → IsHullOf flood stations → ContainsFraction 20 m_lo m_hi (mx_left (plane_at a f) stations flood.slabs.items))
-    (volume_narrow : (planes : PlaneBox) → IsBoxAt a f planes → IsNarrow 20 (left_bound flood planes) v_lo v_hi)
-    (mx_narrow : (planes : PlaneBox) → IsBoxAt a f planes → IsNarrow 20 (whole flood.faces.now.last_x ⊗ left_bound flood planes) m_lo m_hi)
+    (volume_narrow : (planes : PlaneBox) → IsUprightBox a f planes → IsNarrow 20 (left_bound flood planes) v_lo v_hi)
+    (mx_narrow : (planes : PlaneBox) → IsUprightBox a f planes → IsNarrow 20 (whole flood.faces.now.last_x ⊗ left_bound flood planes) m_lo m_hi)
     (order : v_lo ≤ℤ v_hi) (owed_narrow : (o_hi -ℤ o_lo) ≤ℤ pos 1) where
   pub last_enclosed : IsLeastSpanOf 20 o_lo o_hi (displaced loading water ⊗ (whole flood.faces.now.last_x ⊖ x_g loading))
       → ((v m o : Fraction) → ContainsFraction 20 v_lo v_hi v → ContainsFraction 20 m_lo m_hi m → ContainsFraction 20 o_lo o_hi o

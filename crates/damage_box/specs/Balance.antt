@@ -4,7 +4,7 @@ use Rattle.exact_algebra.proofs.Fraction.{Fraction, nought, ◌⊕◌, negative,
 use Rattle.hull_model.specs.declared.station.Station.{Station}
 use Rattle.flux_moments.specs.declared.plane_box.PlaneBox.{PlaneBox}
 use Rattle.compartment_loss.specs.declared.flooded_hull.FloodedHull.{FloodedHull}
-use Rattle.damage_box.specs.Planes.{IsBoxAt}
+use Rattle.compartment_loss.specs.Upright.{IsUprightBox}
 use Rattle.damage_box.specs.Residuals.{IsHullOf, volume_width, residual_width}
 
 -- a flooded hull that is seen from one of its ends, by the levels a at the nearer and f at the farther one, in grid units: the residuals
@@ -40,7 +40,7 @@ abbrev pub OfHulls : Balance → (List Station → Type 0) → Type 0
 OfHulls b P = (stations : List Station) → IsHullOf b.flood stations → P stations
 
 abbrev pub OfBoxes : Balance → ℤ → ℤ → (PlaneBox → Type 0) → Type 0
-OfBoxes b a f P = (planes : PlaneBox) → IsBoxAt (b.first a f) (b.last a f) planes → P planes
+OfBoxes b a f P = (planes : PlaneBox) → IsUprightBox (b.first a f) (b.last a f) planes → P planes
 
 -- both residuals rise with both levels
 pub record Rises (b : Balance) : Type 0 where

@@ -12,7 +12,7 @@ use Rattle.loading_sheet.specs.Centre.{displaced}
 use Rattle.damage_box.specs.declared.reading.Corner.{Corner}
 use Rattle.damage_box.specs.declared.tip.Tip.{Tip}
 use Rattle.damage_box.specs.declared.tip.Tip.TheVariants.{Fore, Aft}
-use Rattle.damage_box.specs.Planes.{IsBoxAt}
+use Rattle.compartment_loss.specs.Upright.{IsUprightBox}
 use Rattle.damage_box.specs.Residuals.{volume_at, last_at, first_at, volume_width, residual_width}
 
 -- the slopes are 2^j mm for j from 4 to 19; half of the slope of each number, in grid units
@@ -41,14 +41,14 @@ module _ (flood : FloodedHull) (loading : Loading) (water : Water) (stations : L
   -- the span from lo to hi contains a quantity at the plane of these levels, and is no wider than the bound there
   pub record EnclosesAt (a f lo hi : ℤ) (quantity : Fraction) (width : FloodedHull → PlaneBox → Fraction) : Type 0 where
     pub contains : ContainsFraction 20 lo hi quantity
-    pub narrow : (planes : PlaneBox) → IsBoxAt a f planes → IsNarrow 20 (width flood planes) lo hi
+    pub narrow : (planes : PlaneBox) → IsUprightBox a f planes → IsNarrow 20 (width flood planes) lo hi
 
   -- enough is left below the plane, and not enough but for the width of an enclosure
   abbrev pub IsEnough : (a f : ℤ) → Type 0
   IsEnough a f = displaced loading water ≼ volume_at stations flood.slabs.items a f
 
   abbrev pub IsShort : (a f : ℤ) → Type 0
-  IsShort a f = (planes : PlaneBox) → IsBoxAt a f planes → volume_at stations flood.slabs.items a f ≺ displaced loading water ⊕ volume_width flood planes
+  IsShort a f = (planes : PlaneBox) → IsUprightBox a f planes → volume_at stations flood.slabs.items a f ≺ displaced loading water ⊕ volume_width flood planes
 
   -- m is the first level of its range that is found to be enough: it is enough, or the last one; the level below isn't, or m is the first
   pub record IsCandidate (tip : Tip) (half m : ℤ) : Type 0 where

@@ -1,18 +1,11 @@
 -- Upright planes by their levels at the first and at the last station, in grid units of 2^-10 mm.
-use Rattle.std.specs.Prelude.{◌≡◌, ℤ, pos, ◌≤ℤ◌}
+use Rattle.std.specs.Prelude.{ℤ, pos, ◌≤ℤ◌}
 use Rattle.hull_model.specs.Waterplane.{Waterplane}
 use Rattle.hull_polyhedron.specs.DamageBox.{upright_at}
 use Rattle.plane_clip.specs.Enclosure.{in_unit}
-use Rattle.flux_moments.specs.declared.plane_box.PlaneBox.{PlaneBox}
 
 abbrev pub plane_at : ℤ → ℤ → Waterplane
 plane_at a f = upright_at (in_unit 10 a) (in_unit 10 f)
-
--- the box of this one plane
-pub record IsBoxAt (a f : ℤ) (planes : PlaneBox) : Type 0 where
-  pub upright : (planes.bracket.low.c ≡ 1) × (planes.bracket.low.s ≡ 0) × (planes.bracket.low.r ≡ 1) × (planes.bracket.high ≡ planes.bracket.low)
-  pub aft : (planes.a1 ≡ a) × (planes.a2 ≡ a)
-  pub fore : (planes.f1 ≡ f) × (planes.f2 ≡ f)
 
 -- x of a station, in mm
 pub record IsPlace (x : ℤ) : Type 0 where

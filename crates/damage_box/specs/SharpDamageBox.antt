@@ -6,6 +6,7 @@ use Rattle.exact_algebra.proofs.Whole.{whole}
 use Rattle.hull_model.specs.declared.station.Station.{Station}
 use Rattle.hull_model.specs.declared.water.Water.{Water}
 use Rattle.hull_polyhedron.specs.DamageBox.{HasSignsAtSides}
+use Rattle.outward_interval.specs.Ends.{EndsBelow}
 use Rattle.outward_interval.specs.declared.span.Span.{Span}
 use Rattle.plane_clip.specs.Enclosure.{in_unit}
 use Rattle.flux_moments.specs.declared.plane_box.PlaneBox.{PlaneBox}
@@ -18,7 +19,7 @@ use Rattle.damage_box.specs.declared.settling.SettleFault.{SettleFault}
 use Rattle.damage_box.specs.declared.settling.SettleFault.TheVariants.{Sinks, NoStart}
 use Rattle.damage_box.specs.declared.tip.Tip.{Tip}
 use Rattle.damage_box.specs.declared.tip.Tip.TheVariants.{Fore, Aft}
-use Rattle.damage_box.specs.Planes.{IsBoxAt}
+use Rattle.compartment_loss.specs.Upright.{IsUprightBox}
 use Rattle.damage_box.specs.Residuals.{volume_at, owed_last, owed_first, last_at, first_at, volume_width, residual_width}
 use Rattle.damage_box.specs.Candidates.{half_of, IsAt, Qualifies, EnclosesAt, IsTried, HasStart}
 
@@ -30,10 +31,11 @@ module _ (flood : FloodedHull) (loading : Loading) (water : Water) (stations : L
   pub record EnclosesWhole (lo hi : ℤ) : Type 0 where
     pub at : EnclosesAt flood loading water stations top top lo hi (volume_at stations flood.slabs.items top top) volume_width
 
-  -- its enclosure lies below the volume that the load displaces
+  -- its enclosure lies below the volume that the load displaces; its ends can be printed
   pub record IsSunk (left : Span 20) : Type 0 where
     pub encloses : EnclosesWhole left.lo left.hi
     pub below : whole left.hi ≺ in_units 20 (displaced loading water)
+    pub ends : EndsBelow 96 left.lo left.hi
 
   -- there is an enclosure that doesn't
   pub record IsAfloat : Type 0 where
@@ -45,10 +47,10 @@ module _ (flood : FloodedHull) (loading : Loading) (water : Water) (stations : L
   -- ---- boxes that can't be shrunk
   -- a residual at the plane of these levels is above 0 and below 0, but for the width of what is read there
   abbrev pub IsNearlyAbove : (a f : ℤ) → (ℤ → ℤ → Fraction) → Type 0
-  IsNearlyAbove a f residual = (planes : PlaneBox) → IsBoxAt a f planes → negative (residual_width flood planes) ≺ residual a f
+  IsNearlyAbove a f residual = (planes : PlaneBox) → IsUprightBox a f planes → negative (residual_width flood planes) ≺ residual a f
 
   abbrev pub IsNearlyBelow : (a f : ℤ) → (ℤ → ℤ → Fraction) → Type 0
-  IsNearlyBelow a f residual = (planes : PlaneBox) → IsBoxAt a f planes → residual a f ≺ residual_width flood planes
+  IsNearlyBelow a f residual = (planes : PlaneBox) → IsUprightBox a f planes → residual a f ≺ residual_width flood planes
 
   -- each side has met the opposite one, or about loses its sign where it moves inwards by one grid unit
   pub record IsTight (a1 a2 f1 f2 : ℤ) : Type 0 where

@@ -7,7 +7,7 @@ ghost use Rattle.damage_box.specs.Balance.{IsLevel, HasSigns, IsSharpBox, mirror
 use crate::floats::Floats;
 use crate::inwards::narrowed;
 use crate::mirror::Mirrored;
-use crate::neighbours::Guess;
+use crate::model::Model;
 use crate::reading::{Corner, Place};
 
 /// Levels from `a1` to `a2` at the first station and from `f1` to `f2` at the last, in grid units of 1/1024 mm.
@@ -23,7 +23,7 @@ pub struct DraftBox {
 }
 
 /// The box between two corners that have their signs, with both moved inwards.
-fn narrowed_box<F: Floats, G: Guess>(floats: &F, guess: &mut G, fore: Place, aft: Place) -> DraftBox
+fn narrowed_box<F: Floats>(floats: &F, model: &Model, fore: Place, aft: Place) -> DraftBox
     requires fore_a { IsLevel fore.a }
     requires fore_f { IsLevel fore.f }
     requires aft_a { IsLevel aft.a }
@@ -34,11 +34,11 @@ fn narrowed_box<F: Floats, G: Guess>(floats: &F, guess: &mut G, fore: Place, aft
     requires aft_signs { HasSigns (mirrored (F.balance floats.now)) aft.f aft.a }
     ensures { IsSharpBox (F.balance floats.now) result.a1 result.a2 result.f1 result.f2 }
 {
-    let front = narrowed(floats, guess, fore, aft);
+    let front = narrowed(floats, model, fore, aft);
     let seen = Mirrored { floats };
     let back = narrowed(
         &seen,
-        guess,
+        &model.turned(),
         Place { a: aft.f, f: aft.a },
         Place {
             a: front.f,
@@ -54,12 +54,7 @@ fn narrowed_box<F: Floats, G: Guess>(floats: &F, guess: &mut G, fore: Place, aft
 }
 
 /// The box from two candidates that qualify, of which the aft one is seen from the other end.
-pub(crate) fn box_from<F: Floats, G: Guess>(
-    floats: &F,
-    guess: &mut G,
-    fore: Corner,
-    aft: Corner,
-) -> DraftBox
+pub(crate) fn box_from<F: Floats>(floats: &F, model: &Model, fore: Corner, aft: Corner) -> DraftBox
     requires fore_a { IsLevel fore.a }
     requires fore_f { IsLevel fore.f }
     requires aft_a { IsLevel aft.a }
@@ -77,7 +72,7 @@ pub(crate) fn box_from<F: Floats, G: Guess>(
         a: fore.a,
         f: fore.f,
     };
-    narrowed_box(floats, guess, fore, aft)
+    narrowed_box(floats, model, fore, aft)
 }
 
 fn at_least(level: i64, least: i64) -> i64

@@ -20,6 +20,9 @@ pub(crate) trait Floats {
         ensures value { result ≡ (balance self.now).high }
         ensures height { IsHeight result };
 
+    /// How far apart the first and the last station lie, in mm.
+    fn length(&self) -> i64;
+
     /// The volume that is needed, in units of 2^-20 rounded up.
     fn need(&self) -> i128
         ensures { IsNeed (balance self.now).need result };

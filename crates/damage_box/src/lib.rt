@@ -6,12 +6,16 @@ mod floats;
 mod inwards;
 mod looks;
 mod mirror;
+mod model;
 mod moments;
 mod neighbours;
 mod reading;
+mod secant;
 mod settling;
 mod ship;
 mod starts;
+#[cfg(test)]
+mod tests;
 mod tip;
 
 pub use draft_box::DraftBox;

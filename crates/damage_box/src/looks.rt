@@ -1,9 +1,11 @@
 // The tests of a level: on a slope, and in a column.
 ghost use Rattle.std.specs.Prelude.{◌≡◌, true, false, ℤ, pos, ◌+ℤ◌, ◌-ℤ◌, ◌≤ℤ◌, ◌<ℤ◌};
-ghost use Rattle.damage_box.specs.Balance.{IsLevel, IsOnSlope, IsEnough, IsShort, IsLastKept, IsLastPassed, IsFirstKept, IsFirstPassed};
+ghost use Rattle.damage_box.specs.Balance.{Balance, IsLevel, IsOnSlope, IsEnough, IsShort, IsLastKept, IsLastPassed, IsFirstKept, IsFirstPassed, HasSigns};
+ghost use Rattle.damage_box.specs.Reading.{IsReading};
 
 use crate::floats::Floats;
-use crate::neighbours::Test;
+use crate::neighbours::{Look, Test};
+use crate::reading::Reading;
 
 pub(crate) fn is_at_most(a: i128, b: i128) -> bool
     ensures pass { result ≡ true → a ≤ℤ b }
@@ -12,27 +14,35 @@ pub(crate) fn is_at_most(a: i128, b: i128) -> bool
     a <= b
 }
 
-/// Whether the volume is enclosed at or above what is needed.
-fn is_enough<F: Floats>(floats: &F, a: i64, f: i64) -> bool
+/// Whether the volume is enclosed at or above what is needed, and by how much.
+fn enough<F: Floats>(floats: &F, a: i64, f: i64) -> Look
     requires a_level { IsLevel a }
     requires f_level { IsLevel f }
-    ensures pass { result ≡ true → IsEnough (F.balance floats.now) a f }
-    ensures fail { result ≡ false → IsShort (F.balance floats.now) a f }
+    ensures pass { result.is_passed ≡ true → IsEnough (F.balance floats.now) a f }
+    ensures fail { result.is_passed ≡ false → IsShort (F.balance floats.now) a f }
 {
     let reading = floats.read(a, f);
     let need = floats.need();
-    is_at_most(need, reading.volume.lo())
+    let low = reading.volume.lo();
+    Look {
+        is_passed: is_at_most(need, low),
+        over: low.saturating_sub(need),
+    }
 }
 
-/// Whether the residual about the first station is enclosed at or above 0.
-pub(crate) fn is_first_kept<F: Floats>(floats: &F, a: i64, f: i64) -> bool
+/// Whether the residual about the first station is enclosed at or above 0, and by how much.
+pub(crate) fn first_kept<F: Floats>(floats: &F, a: i64, f: i64) -> Look
     requires a_level { IsLevel a }
     requires f_level { IsLevel f }
-    ensures pass { result ≡ true → IsFirstKept (F.balance floats.now) a f }
-    ensures fail { result ≡ false → IsFirstPassed (F.balance floats.now) a f }
+    ensures pass { result.is_passed ≡ true → IsFirstKept (F.balance floats.now) a f }
+    ensures fail { result.is_passed ≡ false → IsFirstPassed (F.balance floats.now) a f }
 {
     let reading = floats.read(a, f);
-    is_at_most(0, reading.from_first.lo())
+    let low = reading.from_first.lo();
+    Look {
+        is_passed: is_at_most(0, low),
+        over: low,
+    }
 }
 
 /// Whether the residual about the last station is enclosed at or below 0.
@@ -46,11 +56,18 @@ pub(crate) fn is_last_kept<F: Floats>(floats: &F, a: i64, f: i64) -> bool
     is_at_most(reading.from_last.hi(), 0)
 }
 
+/// Whether both residuals are enclosed at their sides of 0.
+pub(crate) fn has_signs(reading: &Reading) -> bool
+    ensures { (b : Balance) (a f : ℤ) → IsReading b a f reading.now → result ≡ true → HasSigns b a f }
+{
+    is_at_most(reading.from_last.hi(), 0) && is_at_most(0, reading.from_first.lo())
+}
+
 /// Whether the volume is enough at the plane from `level - half` to `level + half`.
 #[derive(Drop)]
 pub(crate) struct OnSlope<'a, F> {
-    pub floats: &'a F,
-    pub half: i64,
+    pub(crate) floats: &'a F,
+    pub(crate) half: i64,
 }
 
 impl<F: Floats> Test for OnSlope<'_, F> {
@@ -60,16 +77,16 @@ impl<F: Floats> Test for OnSlope<'_, F> {
 
     ghost fails = { λ s m. IsShort (F.balance s.floats.now) (m -ℤ s.half) (m +ℤ s.half) };
 
-    fn is_passed(&self, level: i64) -> bool {
-        is_enough(self.floats, level - self.half, level + self.half)
+    fn look(&self, level: i64) -> Look {
+        enough(self.floats, level - self.half, level + self.half)
     }
 }
 
 /// Whether the residual about the first station isn't below 0 in the column `a`.
 #[derive(Drop)]
 pub(crate) struct InColumn<'a, F> {
-    pub floats: &'a F,
-    pub a: i64,
+    pub(crate) floats: &'a F,
+    pub(crate) a: i64,
 }
 
 impl<F: Floats> Test for InColumn<'_, F> {
@@ -79,7 +96,7 @@ impl<F: Floats> Test for InColumn<'_, F> {
 
     ghost fails = { λ s f. IsFirstPassed (F.balance s.floats.now) s.a f };
 
-    fn is_passed(&self, level: i64) -> bool {
-        is_first_kept(self.floats, self.a, level)
+    fn look(&self, level: i64) -> Look {
+        first_kept(self.floats, self.a, level)
     }
 }

@@ -25,6 +25,10 @@ impl<F: Floats> Floats for Mirrored<'_, F> {
         self.floats.high()
     }
 
+    fn length(&self) -> i64 {
+        self.floats.length()
+    }
+
     fn need(&self) -> i128 {
         self.floats.need()
     }

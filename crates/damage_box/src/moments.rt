@@ -3,45 +3,19 @@ ghost use Rattle.std.specs.Prelude.{◌≡◌, ◌<◌, ◌≤◌, ◌*◌, ◌^
 ghost use Rattle.exact_algebra.proofs.Fraction.{Fraction, ◌⊗◌, ◌⊖◌, inverse};
 ghost use Rattle.exact_algebra.proofs.Span.{ContainsFraction, IsLeastSpanOf};
 ghost use Rattle.exact_algebra.proofs.Whole.{whole};
-ghost use Rattle.hull_model.specs.declared.station.Station.{Station};
-ghost use Rattle.hull_model.specs.Flooded.{mx_left};
 ghost use Rattle.exact_fraction.specs.Bounds.{MagnitudeBelow};
 ghost use Rattle.outward_interval.specs.Ends.{EndsBelow};
-ghost use Rattle.outward_interval.specs.Widths.{IsNarrow};
-ghost use Rattle.flux_moments.specs.declared.plane_box.PlaneBox.{PlaneBox};
-ghost use Rattle.compartment_loss.specs.LeftWidths.{left_bound};
 ghost use Rattle.loading_sheet.specs.Centre.{displaced, x_g};
-ghost use Rattle.damage_box.specs.Balance.{IsLevel};
-ghost use Rattle.damage_box.specs.Planes.{plane_at, IsBoxAt, IsPlace};
+ghost use Rattle.damage_box.specs.Planes.{IsPlace};
 ghost use Rattle.damage_box.specs.Reading.{IsNeed};
-ghost use Rattle.damage_box.specs.Residuals.{IsHullOf, volume_at};
 
-use compartment_loss::{FloodedHull, left};
 use exact_fraction::Ratio;
-use flux_moments::{PlaneBox, Wet};
 use hull_model::Water;
 use loading_sheet::Loading;
 use outward_interval::Span;
 
 /// mm³ in a m³.
 const CUBIC_MILLIMETRES: i128 = 1_000_000_000;
-
-/// What is left at one upright plane.
-pub(crate) fn left_at(flood: &FloodedHull, a: i64, f: i64) -> Wet
-    requires a_level { IsLevel a }
-    requires f_level { IsLevel f }
-    ensures volume { (stations : List Station) → IsHullOf flood.now stations → ContainsFraction 20 result.volume.lo result.volume.hi (volume_at stations flood.now.slabs.items a f) }
-    ensures mx { (stations : List Station) → IsHullOf flood.now stations → ContainsFraction 20 result.mx.lo result.mx.hi (mx_left (plane_at a f) stations flood.now.slabs.items) }
-    ensures volume_width { (planes : PlaneBox) → IsBoxAt a f planes → IsNarrow 20 (left_bound flood.now planes) result.volume.lo result.volume.hi }
-    ensures mx_width { (planes : PlaneBox) → IsBoxAt a f planes → IsNarrow 20 (whole flood.now.faces.now.last_x ⊗ left_bound flood.now planes) result.mx.lo result.mx.hi }
-    ensures volume_ends { EndsBelow 100 result.volume.lo result.volume.hi }
-    ensures mx_ends { EndsBelow 122 result.mx.lo result.mx.hi }
-{
-    match PlaneBox::upright(a, a, f, f) {
-        Some(planes) => left(flood, &planes),
-        None => unreachable!(),
-    }
-}
 
 /// The moment of a volume at a place.
 fn at_place(volume: Span<20>, x: i64) -> Span<20>

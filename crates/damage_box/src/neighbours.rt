@@ -2,20 +2,13 @@
 ghost use Rattle.std.specs.Prelude.{◌≡◌, ◌⊎◌, true, false, ℤ, pos, ◌+ℤ◌, ◌-ℤ◌, ◌≤ℤ◌, ◌<ℤ◌};
 ghost use Rattle.damage_box.specs.Balance.{IsFar};
 
-/// Where to look next. Nothing rests on it but speed.
-pub(crate) trait Guess {
-    /// A level to look at, wished between two others.
-    fn level(&mut self, low: i64, high: i64) -> i64;
-}
+use crate::secant::Secant;
 
-/// The middle.
+/// What a look at a level says: whether it passes a test, and by how much.
 #[derive(Clone, Copy, Debug)]
-pub(crate) struct Halving;
-
-impl Guess for Halving {
-    fn level(&mut self, low: i64, high: i64) -> i64 {
-        low / 2 + high / 2
-    }
+pub(crate) struct Look {
+    pub(crate) is_passed: bool,
+    pub(crate) over: i128,
 }
 
 /// A test of a level.
@@ -28,10 +21,11 @@ pub(crate) trait Test {
 
     ghost fails: { Self → ℤ → Type 0 };
 
-    fn is_passed(&self, level: i64) -> bool
+    /// Whether the level passes the test, and by how much it does.
+    fn look(&self, level: i64) -> Look
         requires { can self.now level }
-        ensures pass { result ≡ true → passes self.now level }
-        ensures fail { result ≡ false → fails self.now level };
+        ensures pass { result.is_passed ≡ true → passes self.now level }
+        ensures fail { result.is_passed ≡ false → fails self.now level };
 }
 
 // The level nearest to `wish` that lies strictly between the two.
@@ -51,7 +45,7 @@ pub(crate) fn between(low: i64, high: i64, wish: i64) -> i64
 }
 
 /// The upper of two neighbours from `low` to `high`, of which the lower fails a test or is `low`, and the upper passes it or is `high`.
-pub(crate) fn crossing<T: Test, G: Guess>(test: &T, guess: &mut G, low: i64, high: i64) -> i64
+pub(crate) fn crossing<T: Test>(test: &T, guess: Secant, low: i64, high: i64) -> i64
     requires low_level { IsFar low }
     requires high_level { IsFar high }
     requires order { low <ℤ high }
@@ -61,12 +55,15 @@ pub(crate) fn crossing<T: Test, G: Guess>(test: &T, guess: &mut G, low: i64, hig
     ensures lower { (result ≡ low +ℤ pos 1) ⊎ T.fails test.now (result -ℤ pos 1) }
     ensures upper { (result ≡ high) ⊎ T.passes test.now result }
 {
+    let mut guess = guess;
     let mut failed = low;
     let mut passed = high;
     while passed - failed > 1 {
         let wish = guess.level(failed, passed);
         let level = between(failed, passed, wish);
-        if test.is_passed(level) {
+        let look = test.look(level);
+        guess.learn(level, look.over);
+        if look.is_passed {
             passed = level;
         } else {
             failed = level;

@@ -1,19 +1,23 @@
 // A flooded hull with its load.
-ghost use Rattle.std.specs.Prelude.{◌≡◌, List, IfOk, IfErr};
+ghost use Rattle.std.specs.Prelude.{◌≡◌, ◌⊎◌, ◌≤ℤ◌, pos, List, IfOk, IfErr};
 ghost use Rattle.hull_model.specs.declared.station.Station.{Station};
+ghost use Rattle.hull_model.specs.declared.water.Water.{Water};
+ghost use Rattle.compartment_loss.specs.declared.flooded_hull.FloodedHull.{FloodedHull};
+ghost use Rattle.loading_sheet.specs.declared.loading.Loading.{Loading};
+ghost use Rattle.damage_box.specs.Faults.{IsFault};
 ghost use Rattle.damage_box.specs.Residuals.{IsHullOf};
 ghost use Rattle.damage_box.specs.SharpDamageBox.{IsSharpDamageBox, IsFaultOf};
 ghost use Rattle.damage_box.specs.ShipBalance.{balance_of, balance-rises, balance-ordered};
 
 use crate::floats::Floats;
-use crate::moments::{left_at, needed, over_first, over_last, owed_about_first, owed_about_last};
-use crate::neighbours::Halving;
+use crate::moments::{needed, over_first, over_last, owed_about_first, owed_about_last};
 use crate::reading::Reading;
 use crate::settling::settled;
 use crate::{DraftBox, SettleFault};
-use compartment_loss::FloodedHull;
+use compartment_loss::{FloodedHull, left_at};
 use hull_model::Water;
 use loading_sheet::Loading;
+use outward_interval::Span;
 
 /// Grid units in a mm.
 const GRID: i64 = 1024;
@@ -24,6 +28,7 @@ const GRID: i64 = 1024;
 /// On its sides the residuals have their signs, so that such a plane lies within. No side can be moved inwards by a grid
 /// unit without a residual there that is about 0. `Sinks` comes where the volume that is left of the whole hull is
 /// enclosed below the one that the load displaces, and `NoStart` where none of sixteen planes of a tip shows the signs.
+/// The ends of `left` lie below 2^96 units of 2^-20 mm³.
 pub fn settle(
     flood: &FloodedHull,
     loading: &Loading,
@@ -37,7 +42,35 @@ pub fn settle(
         loading,
         water,
     };
-    settled(&ship, &mut Halving)
+    match settled(&ship) {
+        Ok(found) => Ok(found),
+        Err(fault) => Err(from_base(fault)),
+    }
+}
+
+/// The fault; of the volume of a ship that sinks, what lies below 0 isn't kept.
+fn from_base(fault: SettleFault) -> SettleFault
+    ensures { (flood : FloodedHull) (loading : Loading) (water : Water) (stations : List Station) → IsHullOf flood stations → IsFault (balance_of flood loading water) fault → IsFaultOf flood loading water stations result }
+{
+    match fault {
+        SettleFault::Sinks { left } => SettleFault::Sinks {
+            left: from_nought(left),
+        },
+        SettleFault::NoStart { tip, tried } => SettleFault::NoStart { tip, tried },
+    }
+}
+
+/// The part of a volume's enclosure that isn't below 0.
+fn from_nought(volume: Span<20>) -> Span<20>
+    ensures hi { result.hi ≡ volume.hi }
+    ensures lo { (result.lo ≡ volume.lo) ⊎ (result.lo ≡ pos 0) }
+    ensures above { volume.lo ≤ℤ result.lo }
+    ensures some { pos 0 ≤ℤ volume.hi → pos 0 ≤ℤ result.lo }
+{
+    match Span::new(volume.lo().max(0), volume.hi()) {
+        Some(above) => above,
+        None => volume,
+    }
 }
 
 #[derive(Drop)]
@@ -56,6 +89,10 @@ impl Floats for Ship<'_> {
 
     fn high(&self) -> i64 {
         self.flood.faces().high_z() * GRID
+    }
+
+    fn length(&self) -> i64 {
+        self.flood.faces().last_x() - self.flood.faces().first_x()
     }
 
     fn need(&self) -> i128 {

@@ -1,10 +1,6 @@
 use Rattle.damage_box.proofs.Moves as Moves
 use Rattle.damage_box.proofs.inwards.narrowed.Goals as goal
 
-pub loop-next-init : goal.loop-next-init
-loop-next-init g c =
-    Moves.begin c.requires.limits c.requires.signs
-
 pub moved_last-requires-clause-limits : goal.moved_last-requires-clause-limits
 moved_last-requires-clause-limits g c =
     Moves.limits c.requires.limits c.loop-next.invariant
