@@ -1,0 +1,5 @@
+pub mod Left
+pub mod Kept
+pub mod Columns
+pub mod Strips
+pub mod Floating

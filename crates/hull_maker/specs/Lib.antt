@@ -1,0 +1,4 @@
+pub mod Draws
+pub mod MadeHull
+pub mod MadeJob
+pub mod MadeShip
