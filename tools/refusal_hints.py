@@ -14,12 +14,14 @@ except ImportError:  # before Python 3.11
 
 COLUMNS = ["first field (x)", "second field (half-breadth)", "third field (height)"]
 LIMITS = [524287, 65535, 65535]
-LATER = ["damage", "floodable", "all", "make"]
+LATER = ["all", "make"]
 FORMS = {
     "hydro": ["JOB", "OFFSETS"],
     "bonjean": ["JOB", "OFFSETS"],
     "cross": ["JOB", "OFFSETS"],
     "stability": ["JOB", "OFFSETS"],
+    "damage": ["JOB", "OFFSETS"],
+    "floodable": ["JOB", "OFFSETS"],
     "section": ["OFFSETS", "STATION", "DRAFT"],
 }
 KEYS = {
@@ -204,13 +206,18 @@ def usage_hints(words):
         return []
     command, given = words[0], len(words) - 1
     if command in LATER:
-        return [("later", {"command": command})]
+        return [("later", {"command": command, "commands": in_words(FORMS)})]
     if command not in FORMS:
-        return [("command", {"command": shortened(command)})]
+        return [("command", {"command": shortened(command), "commands": in_words(FORMS)})]
     wanted = FORMS[command]
     if given != len(wanted):
         return [("count", {"command": command, "wanted": " ".join(wanted), "given": count_text(given)})]
     return [(name, {}) for name in wrong_words(dict(zip(wanted, words[1:])))]
+
+
+def in_words(names):
+    *first, last = names
+    return f"{', '.join(first)} and {last}"
 
 
 def count_text(given):

@@ -7,14 +7,17 @@
 
 The curves are volume, displacement, lcb, kb, waterplane, lcf, bmt, bml, kmt, tpc, mct (hydro lines, over the draft),
 station0, station1, .. (section lines: the area of that station over the draft), kn6000000, .. (cross lines: KN over the
-heel, one curve for each displacement in kg), gz and area (arm lines, over degrees of heel). Reports may be joined to one
-file: curves take the lines of all. Figures that are absent break a curve. All stations share a frame, and all KN.
+heel, one curve for each displacement in kg), gz and area (arm lines, over degrees of heel), floodable (safe and next
+lines: the lengths over their centres), damage1, damage2, .. (damage lines in their order: the waterline of a case along
+the ship). Reports may be joined to one file: curves take the lines of all. Figures that are absent break a curve. All
+stations share a frame, all KN, and all damage cases.
 
 A point is a figure of the report. Its interval is drawn as a bar where it is at least a pixel high; else the point
 covers it. The thin line joins the points: between them nothing is certified. Hydro points at drafts at which no
 waterplane is left are drawn hollow: there the whole hull is under. With --offsets the deck is known, and hollow are all
-points at drafts above it: above the lowest of the stations' top points, or for a section above its own. A report that was
-cut is drawn as far as it goes; the sheet and standard error say so.
+points at drafts above it: above the lowest of the stations' top points, or for a section above its own. With --offsets
+floodable lengths have the lines of the ship's ends, and damage cases the ship's profile. A report that was cut is drawn as
+far as it goes; the sheet and standard error say so.
 Ends with 1 and the number of the line where a line is outside the grammar, and with 1 and the line itself where there
 is a `refused` or a `fault` line in place of a report.
 """
@@ -24,19 +27,30 @@ import html
 import math
 import pathlib
 import sys
+import textwrap
 from typing import NamedTuple
 
 sys.dont_write_bytecode = True
 
+import flood_pictures  # noqa: E402
 import offset_rows  # noqa: E402
 import output  # noqa: E402
 import report_lines  # noqa: E402
 
 WIDTH, HEIGHT, LEAST_LEFT, RIGHT, TOP, BOTTOM = 480, 320, 72, 16, 36, 46
 HEAD, FOOT, NOTE, MOST_COLUMNS = 40, 24, 15, 4
-LETTER = 7  # the width of a digit of the labels, at the most
+LETTER, PROSE = 7, 6  # the width of a digit of the labels, at the most, and of a letter of the notes, on the whole
 LEAST_HEIGHT, LEAST_SHARE = 0.001, 0.01  # of a frame: in the unit of the figures, and of the greatest of them
 INK, FAINT, ALERT = "#1f5a94", "#7fa3c7", "#b03030"
+STROKES = {  # of the shapes of a picture that are lines
+    "end": 'fill="none" stroke="#666" stroke-dasharray="4 3"',
+    "join": f'fill="none" stroke="{FAINT}" stroke-width="0.7"',
+    "hull": 'fill="#f4f4f0" stroke="#666"',
+    "water": f'fill="{FAINT}" stroke="{INK}"',
+}
+CIRCLE = '<circle cx="{x:.2f}" cy="{y:.2f}" r="2.6" fill="%s" stroke="%s"/>'
+CROSS = '<path d="M{x:.2f} {y:.2f}m-4 -4l8 8m-8 0l8 -8" stroke="%s"/>'
+MARKS = {"safe": CIRCLE % (INK, INK), "next": CIRCLE % ("white", FAINT), "unsafe": CROSS % ALERT}  # of those that are points
 ARM = [("gz", "GZ, m", 4), ("area", "area below GZ, m·rad", 5)]
 HYDRO = [
     ("volume", "volume, m³"), ("displacement", "displacement, t"), ("lcb", "LCB from x = 0, m"), ("kb", "KB, m"),
@@ -81,6 +95,12 @@ class Curve(NamedTuple):
     title: str
     points: list
     limits: tuple = ()
+
+    def extent(self):
+        """The places and the values that its frame is to hold."""
+        values = [end for point in self.points if point.ends is not None for end in point.ends]
+        values += [value for limit in self.limits for _, value in limit.corners]
+        return [point.place for point in self.points], values
 
 
 # ---- From lines to curves
@@ -143,18 +163,25 @@ def station_curves(lines, tops):
         yield f"station{station}", Curve(DRAFT, f"station {station}, x = {int(own[0][2]) / 1000:g} m: area, m²", points)
 
 
-def curves_of(lines, tops):
-    """The curves that have a figure, by name. `tops` are the heights of the stations' top points, or none."""
+def tops_of(stations):
+    """The heights of the stations' top points in mm; a station that is a single point has no deck."""
+    return [station.kept[-1].z if len(station.kept) > 1 else math.inf for station in stations]
+
+
+def curves_of(lines, stations):
+    """The curves that have a figure, and the pictures, by name. The stations are those of the offsets, or none."""
+    tops = tops_of(stations)
     found = [*hydro_curves(lines, tops), *cross_curves(lines), *arm_curves(lines), *station_curves(lines, tops)]
-    return {
+    curves = {
         name: curve._replace(points=sorted(curve.points, key=lambda point: point.place))
         for name, curve in found
         if any(point.ends is not None for point in curve.points)
     }
+    return {**curves, **flood_pictures.pictures_of(lines, stations)}
 
 
-def tops_of(name, lines):
-    """The heights of the stations' top points in mm; a station that is a single point has no deck."""
+def stations_of(name, lines):
+    """The stations of an offset file, which is to be that of the report's ship."""
     try:
         rows = offset_rows.rows_of(pathlib.Path(name).read_bytes())
         stations = offset_rows.stations_of(rows)
@@ -168,7 +195,7 @@ def tops_of(name, lines):
     for words in lines:
         if words[0] == "hull" and (int(words[1]), int(words[2])) != counts:
             sys.exit(f"{name}: it has {counts[0]} stations of {counts[1]} points, and the report's hull {words[1]} of {words[2]}: is it this ship's?")
-    return [station.kept[-1].z if len(station.kept) > 1 else math.inf for station in stations]
+    return stations
 
 
 # ---- From curves to pictures
@@ -196,11 +223,9 @@ def ticks_within(low, high, room):
 
 def frame_of(curves):
     """The least and the greatest place and value of some curves, with a margin."""
-    points = [point for curve in curves for point in curve.points]
-    ends = [point.ends for point in points if point.ends is not None]
-    ends += [(value, value) for curve in curves for limit in curve.limits for _, value in limit.corners]
-    left, right = min(point.place for point in points), max(point.place for point in points)
-    low, high = min(low for low, _ in ends), max(high for _, high in ends)
+    places = [place for curve in curves for place in curve.extent()[0]]
+    values = [value for curve in curves for value in curve.extent()[1]]
+    left, right, low, high = min(places), max(places), min(values), max(values)
     aside = (right - left) * 0.03 or 0.5
     least = max(LEAST_HEIGHT, LEAST_SHARE * max(abs(low), abs(high)))
     over = max((high - low) * 0.06, (least - (high - low)) / 2)
@@ -221,8 +246,10 @@ class Panel:
     def y(self, value):
         return HEIGHT - BOTTOM - (value - self.low) / (self.high - self.low) * (HEIGHT - TOP - BOTTOM)
 
-    def axes(self):
+    def heading(self):
         yield f'<text x="{self.edge}" y="22" font-size="14">{self.curve.title}</text>'
+
+    def axes(self):
         for tick, text in ticks_within(self.left, self.right, WIDTH - self.edge - RIGHT):
             yield f'<path d="M{self.x(tick):.2f} {TOP}V{HEIGHT - BOTTOM}" stroke="#eee"/>'
             yield f'<text x="{self.x(tick):.2f}" y="{HEIGHT - BOTTOM + 16}" text-anchor="middle">{text}</text>'
@@ -265,15 +292,40 @@ class Panel:
         place = f'x="{x:.2f}" y="{y - 4:.2f}" text-anchor="end"' if at_edge else f'x="{x + 4:.2f}" y="{y + 4:.2f}"'
         yield f'<text {place} fill="{ALERT}">{limit.name}</text>'
 
-    def parts(self):
+    def inside(self):
         if self.curve.limits:
-            return [*self.axes(), self.band(), *(part for limit in self.curve.limits for part in self.limit(limit))]
+            return [self.band(), *(part for limit in self.curve.limits for part in self.limit(limit))]
         marks = [part for point in self.curve.points if point.ends is not None for part in self.mark(point)]
-        return [*self.axes(), self.line(), *marks]
+        return [self.line(), *marks]
+
+    def parts(self):
+        return [*self.heading(), *self.axes(), *self.inside()]
+
+
+class PicturePanel(Panel):
+    """The panel of a picture, with its caption below the title."""
+
+    def heading(self):
+        if not self.curve.caption:
+            return super().heading()
+        title = f'<text x="{self.edge}" y="15" font-size="14">{self.curve.title}</text>'
+        return [title, f'<text x="{self.edge}" y="31">{self.curve.caption}</text>']
+
+    def shape(self, shape):
+        if shape.kind in STROKES:
+            return [f'<path d="M{self.corners(shape.corners)}" {STROKES[shape.kind]}/>']
+        return [MARKS[shape.kind].format(x=self.x(place), y=self.y(value)) for place, value in shape.corners]
+
+    def inside(self):
+        return [part for shape in self.curve.shapes for part in self.shape(shape)]
+
+
+def panel_of(curve, frame):
+    return PicturePanel(curve, frame) if isinstance(curve, flood_pictures.Picture) else Panel(curve, frame)
 
 
 def family_of(name):
-    """The curves that share a frame with this one, so that they can be compared: all stations, or KN of all displacements."""
+    """The curves that share a frame with this one, so that they can be compared: all stations, all KN, or all damage cases."""
     return name.rstrip("0123456789")
 
 
@@ -285,15 +337,23 @@ def frames_of(curves):
     return {family: frame_of(members) for family, members in families.items()}
 
 
-def notes_of(curves, is_deck_known):
-    if any(not curve.limits for curve in curves.values()):
+def notes_of_curves(curves, is_deck_known):
+    if any(not curve.limits for curve in curves):
         yield from NOTES
-    if any(curve.limits for curve in curves.values()):
+    if any(curve.limits for curve in curves):
         yield from LIMITS
-    if any(point.is_above and point.ends is not None for curve in curves.values() for point in curve.points):
+    if any(point.is_above and point.ends is not None for curve in curves for point in curve.points):
         yield HOLLOW[is_deck_known]
-    if not is_deck_known and any(curve.across == DRAFT for curve in curves.values()):
+    if not is_deck_known and any(curve.across == DRAFT for curve in curves):
         yield "Without --offsets the deck isn't known; above it the hull is taken as closed."
+
+
+def notes_of(curves, is_deck_known):
+    """The notes of all curves and pictures, each once."""
+    others = [curve for curve in curves.values() if isinstance(curve, Curve)]
+    pictures = [curve for curve in curves.values() if isinstance(curve, flood_pictures.Picture)]
+    notes = [*notes_of_curves(others, is_deck_known), *(note for picture in pictures for note in picture.notes)]
+    return list(dict.fromkeys(notes))
 
 
 class Sheet(NamedTuple):
@@ -308,7 +368,9 @@ def drawing(curves, sheet):
     """A picture of the curves, by name, on one sheet."""
     columns = min(MOST_COLUMNS, max(1, math.isqrt(len(curves) - 1) + 1))
     rows = -(-len(curves) // columns)
-    width, height = columns * WIDTH, HEAD + rows * HEIGHT + FOOT + NOTE * len(sheet.notes)
+    width = columns * WIDTH
+    notes = [line for note in sheet.notes for line in textwrap.wrap(note, (width - 2 * RIGHT) // PROSE)]
+    height = HEAD + rows * HEIGHT + FOOT + NOTE * len(notes)
     parts = [
         f'<svg xmlns="http://www.w3.org/2000/svg" viewBox="0 0 {width} {height}" font-family="sans-serif" font-size="11">',
         f'<rect width="{width}" height="{height}" fill="white"/>',
@@ -316,9 +378,9 @@ def drawing(curves, sheet):
     ]
     for at, (name, curve) in enumerate(curves.items()):
         parts.append(f'<g transform="translate({at % columns * WIDTH} {HEAD + at // columns * HEIGHT})">')
-        parts += [*Panel(curve, sheet.frames[family_of(name)]).parts(), "</g>"]
+        parts += [*panel_of(curve, sheet.frames[family_of(name)]).parts(), "</g>"]
     foot = HEAD + rows * HEIGHT + NOTE
-    parts += [f'<text x="16" y="{foot + NOTE * at}">{note}</text>' for at, note in enumerate(sheet.notes)]
+    parts += [f'<text x="16" y="{foot + NOTE * at}">{note}</text>' for at, note in enumerate(notes)]
     return "\n".join([*parts, "</svg>"]).encode("utf-8", "replace") + b"\n"
 
 
@@ -342,12 +404,12 @@ def main():
     reader.add_argument("report", metavar="REPORT", help="a file, or - for the input")
     reader.add_argument("--curve", metavar="NAME", help="this curve alone")
     reader.add_argument("--out", type=pathlib.Path, metavar="FOLDER", help="where each curve is written to a file NAME.svg")
-    reader.add_argument("--offsets", metavar="OFFSETS", help="the hull's offset file, for the height of the deck")
+    reader.add_argument("--offsets", metavar="OFFSETS", help="the hull's offset file, for the deck, the ends and the profile")
     given = reader.parse_args()
     lines = report_lines.read(given.report)
-    curves = curves_of(lines, tops_of(given.offsets, lines) if given.offsets else [])
+    curves = curves_of(lines, stations_of(given.offsets, lines) if given.offsets else [])
     if not curves:
-        sys.exit(f"{given.report}: it has no figures to draw; has the job drafts or displacements?")
+        sys.exit(f"{given.report}: it has no figures to draw; has the job drafts, displacements, damage cases or centres?")
     if given.curve and given.curve not in curves:
         sys.exit(f"{given.report}: no curve {given.curve}; there are {' '.join(curves)}")
     frames = frames_of(curves)

@@ -23,6 +23,7 @@ import unittest
 sys.dont_write_bytecode = True
 
 import check_input  # noqa: E402
+import flood_pictures  # noqa: E402
 import offset_rows  # noqa: E402
 import refusal_hints  # noqa: E402
 import refusal_texts  # noqa: E402
@@ -50,6 +51,21 @@ SECTIONS = "".join(
 WEDGE = (
     "hullcert 1 hydro\nhull 3 6\nhydro 5000 [2499.999999,2500.000001] [2562.499998,2562.500002] [-49.999999,-49.999999] - "
     "[999.999999,1000.000001] - - - - [10.249999,10.250001] -\nend 4\n"
+)
+LOADED = "hull 21 121\nbody 101283500000000\nload 8380000 [49.541766,49.541767] [5.958233,5.958234]\n"
+DAMAGE = f"hullcert 1 damage\n{LOADED}damage 1 5837189 5837191 9468601 9468603\ndamage 2 8516633 8516635 5644566 5644568\nend 7\n"
+LOST = (
+    f"hullcert 1 damage\n{LOADED}damage 1 5837189 5837191 9468601 9468603\ndamage 2 sinks [7123.456789,7123.456791]\n"
+    "damage 3 nostart fore\ndamage 4 nostart aft\nend 9\n"
+)
+FLOODABLE = (
+    f"hullcert 1 floodable\n{LOADED}safe 30000 29000 12204743 12204746 5602568 5602571\n"
+    "next 30000 30000 over 0 12464921 12464923 5562301 5562303\nsafe 60000 31000 7259853 7259854 12020648 12020649\n"
+    "next 60000 32000 over 20 7284700 7284701 12257165 12257167\nend 9\n"
+)
+GAP = (  # the centres in no order, and one of them without a safe length
+    f"hullcert 1 floodable\n{LOADED}safe 90000 22000 1 2 3 4\nnext 90000 24000 touch 20 1 2 3 4\nsafe 60000 -\nnext 60000 0 sinks\n"
+    "safe 10000 20000 5 6 7 8\nnext 10000 22000 endofship\nsafe 20000 18000 1 2 3 4\nnext 20000 20000 nostart\nend 13\n"
 )
 
 RT = """#!/bin/sh
@@ -178,7 +194,7 @@ class Texts(unittest.TestCase):
 
     def test_words_of_no_form(self):
         for words, hint in [
-            (["damage", "a", "b"], "later"), (["hydros", "a", "b"], "command"), (["hydro", "a"], "count"),
+            (["all", "a", "b"], "later"), (["hydros", "a", "b"], "command"), (["hydro", "a"], "count"),
             (["hydro", "a\udce4", "b"], "name_bytes"), (["hydro", "-a", "b"], "dash"), (["section", "a", "1", "8.5"], "draft"), (["section", "a", "x", "8"], "station"),
         ]:
             with self.subTest(words):
@@ -566,6 +582,9 @@ class Reports(Room):
 
     def test_a_report_without_rows(self):
         self.assertIn("has the job drafts", self.tool("report_csv.py", self.file("report", "hullcert 1 hydro\nend 2\n")).stderr)
+        done = self.tool("report_svg.py", self.file("report", f"hullcert 1 damage\n{LOADED}end 5\n"))
+        self.assertEqual((done.returncode, done.stdout), (1, ""))
+        self.assertIn("damage cases or centres", done.stderr)
 
     def test_the_files_of_a_family_share_a_frame(self):
         self.tool("report_svg.py", self.file("report", SECTIONS.replace("[2.000000,2.000000]", "[7.000000,7.000000]", 1)), "--out", self.room / "all")
@@ -586,6 +605,137 @@ class Reports(Room):
         wide = "hydro 5 [1.000000,2.000000] [1.000000,2.000000] - - [1.000000,2.000000] - - - - [1.000000,2.000000] -\nend 2\n"
         self.assertEqual(self.sheet(wide, "--curve", "volume").count("h8"), 2)
         self.assertEqual(self.sheet(REPORT, "--curve", "volume").count("h8"), 0)
+
+    def test_notes_stay_within_the_sheet(self):
+        for words in (["--curve", "gz"], ["--curve", "floodable"], ["--curve", "damage2", "--offsets", CARGO], []):
+            sheet = self.sheet("arm 0 1 2 [0.000000,0.000000] [0.000000,0.000000]\nend 2\n" + FLOODABLE + LOST, *words)
+            room = int(re.search(r'viewBox="0 0 ([0-9]+) ', sheet)[1]) - 2 * report_svg.RIGHT
+            notes = re.findall(r'<text x="16" y="[0-9]+">([^<]*)</text>', sheet)
+            self.assertGreaterEqual(len(notes), 3)
+            self.assertLessEqual(max(len(note) for note in notes) * report_svg.PROSE, room)
+
+    def pictures(self, report, offsets=None):
+        """The shapes of each picture of a report, each with its kind."""
+        stations = offset_rows.stations_of(offset_rows.rows_of(offsets.read_bytes())) if offsets else []
+        pictures = flood_pictures.pictures_of(report_lines.lines_of(report.encode()), stations)
+        return {name: [tuple(shape) for shape in picture.shapes if shape.corners] for name, picture in pictures.items()}
+
+    def test_floodable_lengths(self):
+        drawn = [("join", [(30, 29), (60, 31)]), ("next", [(30, 30), (60, 32)]), ("safe", [(30, 29), (60, 31)])]
+        self.assertEqual(self.pictures(FLOODABLE), {"floodable": drawn})
+        ends = [("end", [(0, 0), (16, 32)]), ("end", [(102, 0), (86, 32)])]
+        self.assertEqual(self.pictures(FLOODABLE, CARGO), {"floodable": ends + drawn})
+        for name, line in (("safe", "safe 4000 2000 1 2 3 4\n"), ("next", "next 4000 2000 sinks\n")):
+            self.assertIn((name, [(4, 2)]), self.pictures(line)["floodable"])
+
+    def test_lines_of_the_ends_meet_amidships(self):
+        for report in (FLOODABLE.replace("next 60000 32000", "next 60000 200000"), "safe 30000 -\nnext 30000 0 sinks\nend 3\n"):
+            (shapes,) = self.pictures(report, CARGO).values()
+            self.assertEqual(shapes[:2], [("end", [(0, 0), (51, 102)]), ("end", [(102, 0), (51, 102)])])
+
+    def test_a_centre_without_a_safe_length_breaks_the_line(self):
+        (shapes,) = self.pictures(GAP).values()
+        self.assertEqual(shapes, [
+            ("join", [(10, 20), (20, 18)]), ("join", [(90, 22)]), ("next", [(10, 22), (20, 20), (60, 0), (90, 24)]),
+            ("safe", [(10, 20), (20, 18), (90, 22)]), ("unsafe", [(60, 0)]),
+        ])
+
+    def places(self, sheet, pattern):
+        return [tuple(map(float, found)) for found in re.findall(pattern, sheet)]
+
+    def test_the_sheet_of_floodable_lengths(self):
+        sheet = self.sheet(FLOODABLE, "--offsets", CARGO)
+        (left, base, *_), (right, *_) = self.places(sheet, r'd="M(\S+) (\S+)L(\S+) (\S+)" fill="none" stroke="#666" stroke-dash')
+        safe = self.places(sheet, rf'cx="(\S+)" cy="(\S+)" r="2.6" fill="{report_svg.INK}"')
+        later = self.places(sheet, rf'cx="(\S+)" cy="(\S+)" r="2.6" fill="white" stroke="{report_svg.FAINT}"')
+        self.assertEqual((len(safe), len(later), sheet.count(report_svg.ALERT), sheet.count("<g ")), (2, 2, 0, 1))
+        metre = (base - safe[0][1]) / 29
+        for (x, y), centre, length in zip(safe + later, (30, 60, 30, 60), (29, 31, 30, 32)):
+            self.assertAlmostEqual((x - left) / (right - left), centre / 102, delta=1e-4)
+            self.assertAlmostEqual((base - y) / metre, length, delta=0.01)
+        for said in ("floodable length, m<", "between their centres nothing is certified", "not safe", "none reaches past it"):
+            self.assertEqual(sheet.count(said), 1, said)
+
+    def test_floodable_lengths_without_the_offsets(self):
+        sheet = self.sheet(FLOODABLE)
+        self.assertEqual((sheet.count("stroke-dasharray"), sheet.count("<circle"), sheet.count("the ends of the ship aren't known")), (0, 4, 1))
+        self.assertEqual((sheet.count("Crosses"), sheet.count('text-anchor="end">0<')), (0, 1))
+
+    def test_a_centre_without_a_safe_length_has_a_cross_at_0(self):
+        sheet = self.sheet(GAP)
+        ((_, y),) = self.places(sheet, rf'd="M(\S+) (\S+)m-4 -4l8 8m-8 0l8 -8" stroke="{report_svg.ALERT}"')
+        self.assertEqual(self.places(sheet, r'd="M(\S+) (\S+)H464" stroke="#888"')[0][1], y)
+        self.assertEqual((sheet.count("<circle"), sheet.count("Crosses: at these centres no length is safe.")), (7, 1))
+
+    def test_damage_cases(self):
+        shapes = self.pictures(DAMAGE, CARGO)
+        self.assertEqual([[kind for kind, _ in shapes[name]] for name in shapes], [["hull", "water"], ["hull", "water"]])
+        (_, hull), (_, water) = shapes["damage1"]
+        self.assertEqual((len(hull), hull[0], hull[20], hull[21], hull[41], hull[42]), (43, (0, 12), (102, 12), (102, 12), (0, 0), (0, 12)))
+        self.assertEqual([place for place, _ in water], [0, 102, 102, 0, 0])
+        levels = [5837189, 9468601, 9468603, 5837191, 5837189]
+        self.assertEqual([value * 1024000 for _, value in water], levels)
+        self.assertEqual([kind for kind, _ in self.pictures(DAMAGE)["damage2"]], ["water"])
+        self.assertEqual([place for place, _ in self.pictures(DAMAGE)["damage2"][0][1]], [0, 1, 1, 0, 0])
+
+    def test_the_sheet_of_damage_cases(self):
+        sheet = self.sheet(DAMAGE, "--offsets", CARGO)
+        self.assertEqual(re.findall(r'y="31">([^<]*)<', sheet), [
+            "[5.700379,5.700382] m aft, [9.246680,9.246683] m forward", "[8.317024,8.317027] m aft, [5.512271,5.512274] m forward",
+        ])
+        hulls = self.places(sheet, rf'd="M(\S+) (\S+)L.*" {report_svg.STROKES["hull"]}')
+        lines = self.places(sheet, rf'd="M(\S+) (\S+)L(\S+) (\S+)L.*" {report_svg.STROKES["water"]}')
+        (zero, *_), (twelve, *_) = ([float(y) - 4 for y in re.findall(rf'y="(\S+)" text-anchor="end">{tick}<', sheet)] for tick in (0, 12))
+        self.assertEqual([hull[1] for hull in hulls], [twelve, twelve])
+        for (x, aft, _, fore), (left, _), levels in zip(lines, hulls, ((5.70038, 9.24668), (8.317026, 5.512272))):
+            self.assertEqual(x, left)
+            for y, level in zip((aft, fore), levels):
+                self.assertAlmostEqual(zero + (twelve - zero) * level / 12, y, delta=0.02)
+        self.assertEqual(sheet.count('y="15" font-size="14">damage case'), 2)
+        self.assertEqual((sheet.count("Profile:"), sheet.count("the profile isn't known")), (1, 0))
+        self.assertEqual([self.sheet(DAMAGE).count(said) for said in ("Profile:", "the profile isn't known")], [0, 1])
+
+    def test_cases_without_a_waterline(self):
+        for words, hulls in ([], 0), (["--offsets", CARGO], 4):
+            sheet = self.sheet(LOST, *words)
+            self.assertEqual(re.findall(r'y="31">([^<]*)<', sheet)[1:], [
+                "the ship sinks: only [7123.456789,7123.456791] m³ are left", "no waterline is found: the search has no start at the fore end",
+                "no waterline is found: the search has no start at the aft end",
+            ])
+            self.assertEqual((sheet.count(report_svg.STROKES["water"]), sheet.count(report_svg.STROKES["hull"])), (1, hulls))
+            self.assertEqual(sheet.count("Sinks: "), 1)
+        self.assertEqual(self.sheet(DAMAGE).count("Sinks: "), 0)
+        self.assertEqual(self.sheet("damage 7 nostart aft\nend 2\n", "--curve", "damage1").count("damage case 7"), 1)
+
+    def test_levels_are_rounded_outwards(self):
+        for low, high, text in [
+            (1, 1, "[0.000000,0.000001]"), (-1, -1, "[-0.000001,0.000000]"), (1024000, 1024000, "[1.000000,1.000000]"),
+            (-12800128, 12800128, "[-12.500125,12.500125]"), (-12800129, 12800129, "[-12.500126,12.500126]"),
+        ]:
+            self.assertEqual(flood_pictures.metres(low, high), text)
+
+    def test_pictures_have_files_and_join_with_curves(self):
+        joined = DAMAGE + FLOODABLE
+        self.assertEqual(self.sheet(joined + SECTIONS).count("<g "), 8)
+        self.assertEqual(self.sheet(joined, "--curve", "damage2").count("<g "), 1)
+        self.assertEqual(self.tool("report_svg.py", self.file("report", joined), "--out", self.room / "all", "--offsets", CARGO).returncode, 0)
+        texts = {path.stem: re.findall(r'text-anchor="end">([^<]*)<', path.read_text()) for path in (self.room / "all").iterdir()}
+        self.assertEqual(set(texts), {"damage1", "damage2", "floodable"})
+        self.assertEqual(texts["damage1"], texts["damage2"])
+
+    def test_tables_of_flooding(self):
+        self.tool("report_csv.py", self.file("report", LOST + GAP), "--out", self.room / "all")
+        lines = {path.stem: path.read_text().splitlines() for path in (self.room / "all").iterdir()}
+        self.assertEqual(set(lines), {"load", "damage", "safe", "next"})
+        self.assertEqual(lines["damage"], [
+            "case,end,side,a1,a2,f1,f2,left_m3_low,left_m3_high", "1,settled,,5837189,5837191,9468601,9468603,,",
+            "2,sinks,,,,,,7123.456789,7123.456791", "3,nostart,fore,,,,,,", "4,nostart,aft,,,,,,",
+        ])
+        self.assertEqual(lines["safe"], ["centre_mm,length_mm,a1,a2,f1,f2", "90000,22000,1,2,3,4", "60000,,,,,", "10000,20000,5,6,7,8", "20000,18000,1,2,3,4"])
+        self.assertEqual(lines["next"], [
+            "centre_mm,length_mm,reason,station,a1,a2,f1,f2", "90000,24000,touch,20,1,2,3,4", "60000,0,sinks,,,,,", "10000,22000,endofship,,,,,",
+            "20000,20000,nostart,,,,,",
+        ])
 
     def test_every_line_of_the_grammar_has_its_head(self):
         heads = {form[0] for form in report_lines.FORMS} - {"hullcert", "hull", "body", "verdict", "end"}

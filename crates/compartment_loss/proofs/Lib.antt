@@ -10,3 +10,5 @@ pub mod UprightDepths
 pub mod UprightColumns
 pub mod UprightSums
 pub mod UprightBoxes
+pub mod UprightParts
+pub mod UprightPartSums

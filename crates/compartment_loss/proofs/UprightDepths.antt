@@ -18,7 +18,8 @@ use Rattle.flux_moments.specs.declared.plane_box.PlaneBox.{PlaneBox}
 use Rattle.flux_moments.proofs.BoxWidths.{level-narrow, level-near, nonnegative_turn}
 use Rattle.flux_moments.proofs.Heights.{cosine_contained, sine_contained, height_is}
 use Rattle.flux_moments.proofs.Levels.{before_within, behind_within, length_some, length_same, level_encloses}
-use Rattle.compartment_loss.specs.declared.upright.Way.{Way}
+use Rattle.compartment_loss.specs.declared.upright.Known.{Known}
+use Rattle.compartment_loss.specs.declared.way.Way.{Way}
 use Rattle.compartment_loss.specs.Upright.{IsUpright}
 
 -- ---- the direction
@@ -87,3 +88,8 @@ module _ (planes : PlaneBox) (way : Way) (x lo hi : ℤ) (from : way.first ≤�
 
   pub level_near : (l : Fraction) → IsNear 10 l planes.a1 planes.a2 → IsNear 10 l planes.f1 planes.f2 → IsNear 20 (l ⊕ units 20 1) lo hi
   level_near = level-near way.first way.last x length some same before behind planes.a1 planes.a2 planes.f1 planes.f2 lo hi ends
+
+-- ---- places that are known
+pub record AreKnown (planes : PlaneBox) (way : Way) (k : Known) : Type 0 where
+  pub near : AreLevelEnds planes way.first way.last k.near.x k.near.level.lo k.near.level.hi
+  pub far : AreLevelEnds planes way.first way.last k.far.x k.far.level.lo k.far.level.hi

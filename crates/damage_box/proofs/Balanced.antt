@@ -24,16 +24,16 @@ place_size x n p e = go x n p.from p.to e
     go x (pos n) h k e = omega (arith, ints)
     go x (negsuc n) h k e = absurd (omega (arith, ints))
 
-pub times_ends : {a b lo hi : ℤ} (x n : ℤ) → IsPlace x → n ≡ x → EndsBelow 100 a b → AreEnds (int_min (a *ℤ n) (b *ℤ n)) (int_max (a *ℤ n) (b *ℤ n)) lo hi → EndsBelow 119 lo hi
+pub times_ends : {a b lo hi : ℤ} (x n : ℤ) → IsPlace x → n ≡ x → EndsBelow 102 a b → AreEnds (int_min (a *ℤ n) (b *ℤ n)) (int_max (a *ℤ n) (b *ℤ n)) lo hi → EndsBelow 121 lo hi
 times_ends {a} {b} {lo} {hi} x n p e h ends = record { low = rw ends.low (lesser (a *ℤ n) (b *ℤ n) (at a h.low) (at b h.high)); high = rw ends.high (greater (a *ℤ n) (b *ℤ n) (at a h.low) (at b h.high)) }
   where
-    at : (z : ℤ) → MagnitudeBelow 100 z → MagnitudeBelow 119 (z *ℤ n)
-    at z m = product_less (2 ^ 100) (2 ^ 19) z n m (place_size x n p e)
+    at : (z : ℤ) → MagnitudeBelow 102 z → MagnitudeBelow 121 (z *ℤ n)
+    at z m = product_less (2 ^ 102) (2 ^ 19) z n m (place_size x n p e)
 
-    lesser : (p q : ℤ) → MagnitudeBelow 119 p → MagnitudeBelow 119 q → MagnitudeBelow 119 (int_min p q)
+    lesser : (p q : ℤ) → MagnitudeBelow 121 p → MagnitudeBelow 121 q → MagnitudeBelow 121 (int_min p q)
     lesser p q h k = omega (arith, ints, clamps)
 
-    greater : (p q : ℤ) → MagnitudeBelow 119 p → MagnitudeBelow 119 q → MagnitudeBelow 119 (int_max p q)
+    greater : (p q : ℤ) → MagnitudeBelow 121 p → MagnitudeBelow 121 q → MagnitudeBelow 121 (int_max p q)
     greater p q h k = omega (arith, ints, clamps)
 
 pub times_width : (x n w d : ℤ) → IsPlace x → n ≡ x → w ≡ pos (unsigned_abs n) *ℤ d → w ≡ x *ℤ d

@@ -20,8 +20,8 @@ const CUBIC_MILLIMETRES: i128 = 1_000_000_000;
 /// The moment of a volume at a place.
 fn at_place(volume: Span<20>, x: i64) -> Span<20>
     requires place { IsPlace x }
-    requires volume { EndsBelow 100 volume.lo volume.hi }
-    ensures ends { EndsBelow 119 result.lo result.hi }
+    requires volume { EndsBelow 102 volume.lo volume.hi }
+    ensures ends { EndsBelow 121 result.lo result.hi }
     ensures contains { (v : Fraction) → ContainsFraction 20 volume.lo volume.hi v → ContainsFraction 20 result.lo result.hi (whole x ⊗ v) }
     ensures width { result.hi -ℤ result.lo ≡ x *ℤ (volume.hi -ℤ volume.lo) }
 {
@@ -31,7 +31,7 @@ fn at_place(volume: Span<20>, x: i64) -> Span<20>
 /// By how much the moment of what is left about the last station is above what is owed.
 pub(crate) fn over_last(last_x: i64, volume: Span<20>, mx: Span<20>, owed: Span<20>) -> Span<20>
     requires place { IsPlace last_x }
-    requires volume { EndsBelow 100 volume.lo volume.hi }
+    requires volume { EndsBelow 102 volume.lo volume.hi }
     requires mx { EndsBelow 122 mx.lo mx.hi }
     requires owed { EndsBelow 108 owed.lo owed.hi }
     ensures contains { (v m o : Fraction) → ContainsFraction 20 volume.lo volume.hi v → ContainsFraction 20 mx.lo mx.hi m → ContainsFraction 20 owed.lo owed.hi o → ContainsFraction 20 result.lo result.hi ((whole last_x ⊗ v ⊖ m) ⊖ o) }
@@ -43,7 +43,7 @@ pub(crate) fn over_last(last_x: i64, volume: Span<20>, mx: Span<20>, owed: Span<
 /// By how much the moment of what is left about the first station is above what is owed.
 pub(crate) fn over_first(first_x: i64, volume: Span<20>, mx: Span<20>, owed: Span<20>) -> Span<20>
     requires place { IsPlace first_x }
-    requires volume { EndsBelow 100 volume.lo volume.hi }
+    requires volume { EndsBelow 102 volume.lo volume.hi }
     requires mx { EndsBelow 122 mx.lo mx.hi }
     requires owed { EndsBelow 108 owed.lo owed.hi }
     ensures contains { (v m o : Fraction) → ContainsFraction 20 volume.lo volume.hi v → ContainsFraction 20 mx.lo mx.hi m → ContainsFraction 20 owed.lo owed.hi o → ContainsFraction 20 result.lo result.hi ((m ⊖ whole first_x ⊗ v) ⊖ o) }

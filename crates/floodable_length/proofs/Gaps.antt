@@ -1,5 +1,5 @@
 -- Gaps that are narrowed, and what one of a single step says.
-use Rattle.std.proofs.Common.{◌≡◌, sym, subst, ap, ◌∙◌, refl, arith, ◌≤◌, ◌^◌, ℕ, ℤ, pos, ◌+ℤ◌, ◌-ℤ◌, ◌*ℤ◌, ◌≤ℤ◌, ◌<ℤ◌, unsigned_abs, [], ◌∷◌}
+use Rattle.std.proofs.Common.{◌≡◌, sym, subst, ap, ◌∙◌, refl, arith, ℕ, ℤ, pos, ◌+ℤ◌, ◌-ℤ◌, ◌*ℤ◌, ◌≤ℤ◌, ◌<ℤ◌, unsigned_abs, [], ◌∷◌}
 use Rattle.std.proofs.lemmas.Int.{ints}
 use Rattle.std.proofs.Math.IntN.{zero-*ℤ}
 use Rattle.std.specs.Int.Signed.{≤ℤ_refl}
@@ -54,8 +54,11 @@ pub between : {low middle : ℤ} → pos 0 ≤ℤ low → low <ℤ middle → po
 between h k = omega (arith, ints)
 
 -- ---- numbers of steps
-pub few-steps : {n : ℤ} → pos 0 ≤ℤ n → n ≤ℤ pos 524288 → unsigned_abs n ≤ 2 ^ 30
-few-steps h k = omega (arith, ints)
+pub one_above : {low high : ℤ} → pos 0 ≤ℤ low → high ≡ low +ℤ pos 1 → pos 0 ≤ℤ high
+one_above h e = omega (arith, ints)
+
+pub one_below : {low high : ℤ} → high ≤ℤ pos 524288 → high ≡ low +ℤ pos 1 → low ≤ℤ pos 524288
+one_below h e = omega (arith, ints)
 
 pub double : {length : ℤ} (n half_step : ℤ) → length ≡ n *ℤ (pos 2 *ℤ half_step) → length ≡ n *ℤ twice half_step
 double n half_step e = e ∙ ap (λ step. n *ℤ step) (once_more half_step)

@@ -2,3 +2,5 @@ pub mod Levels
 pub mod Steps
 pub mod Flooded
 pub mod Gaps
+pub mod LevelLaw
+pub mod SmallLengths

@@ -142,3 +142,6 @@ module _ (first last centre half_step steps half : ℤ) (permeability : ℕ) (li
 
 pub double-fits : (n : ℤ) → pos 1 ≤ℤ n → n ≤ℤ pos 50000 → SFits w64 (pos 2 *ℤ n)
 double-fits n h k = fits_64 (pos 2 *ℤ n) (omega (arith, ints))
+
+pub steps-fits : (n : ℤ) → pos 0 ≤ℤ n → n ≤ℤ pos 524288 → SFits w64 n
+steps-fits n h k = fits_64 n (omega (arith, ints))

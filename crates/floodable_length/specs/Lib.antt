@@ -4,3 +4,4 @@ pub mod LoadedShip
 pub mod Settled
 pub mod Reach
 pub mod Gap
+pub mod MarginLaw

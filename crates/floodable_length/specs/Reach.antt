@@ -1,6 +1,7 @@
 -- How long the ship may flood at a centre.
-use Rattle.std.specs.Prelude.{◌≡◌, ℕ, ℤ, pos, ◌+ℤ◌, ◌*ℤ◌, Option, Some, None, List}
+use Rattle.std.specs.Prelude.{◌≡◌, ℕ, ℤ, pos, ◌+ℤ◌, ◌*ℤ◌, Option, Some, None, IfSome, List}
 use Rattle.hull_model.specs.declared.slab.Slab.{Slab}
+use Rattle.hull_model.specs.Body.{IsWithin}
 use Rattle.hull_model.specs.Submerged.{first_x, last_x}
 use Rattle.damage_box.specs.declared.draft_box.DraftBox.{DraftBox}
 use Rattle.floodable_length.specs.declared.reach.Reach.{Reach}
@@ -52,3 +53,8 @@ module _ (ship : LoadedShip) (centre : ℤ) (permeability : ℕ) where
 
     abbrev pub IsReach : Reach → Type 0
     IsReach reach = ReachesTo reach.safe reach.next
+
+-- lengths in mm: a safe one is no longer than a ship may be, and the next one is no more than a step longer
+pub record HasSmallLengths (reach : Reach) : Type 0 where
+  pub safe : IfSome reach.safe (λ safe. IsWithin (pos 524287) safe.0)
+  pub next : IsWithin (pos 624287) reach.next.0

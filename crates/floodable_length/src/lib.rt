@@ -2,6 +2,7 @@
 #![tactic(auto)]
 
 mod gap;
+mod laws;
 mod lengths;
 mod margin_line;
 mod products;
@@ -12,5 +13,6 @@ mod ship;
 mod tests;
 mod weighing;
 
+pub use laws::margin_points_compare_by_levels;
 pub use reach::{Reach, Reason};
 pub use search::floodable;

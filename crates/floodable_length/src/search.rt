@@ -5,7 +5,7 @@ ghost use Rattle.hull_polyhedron.specs.FacesOf.{AreFacesOf};
 ghost use Rattle.floodable_length.specs.Gap.{IsAlong, IsFound, IsGap};
 ghost use Rattle.floodable_length.specs.Lengths.{twice};
 ghost use Rattle.floodable_length.specs.LoadedShip.{LoadedShip, ship_of, IsShip};
-ghost use Rattle.floodable_length.specs.Reach.{IsSafe, IsReach};
+ghost use Rattle.floodable_length.specs.Reach.{IsSafe, IsReach, HasSmallLengths};
 
 use crate::gap::Gap;
 use crate::lengths::Lengths;
@@ -41,7 +41,8 @@ pub fn floodable(
     requires step { (pos 2 ≤ℤ step) × (step ≤ℤ pos 100000) }
     requires even { nat_abs step % 2 ≡ 0 }
     requires permeability { permeability ≤ 1000 }
-    ensures { IfOk result (IsReach (record { stations = hull.now; faces = faces.now; loading = loading.now; water = water.now; margin = margin }) centre permeability step) }
+    ensures reach { IfOk result (IsReach (record { stations = hull.now; faces = faces.now; loading = loading.now; water = water.now; margin = margin }) centre permeability step) }
+    ensures lengths { IfOk result HasSmallLengths }
 {
     let ship = Ship {
         stations: hull.stations(),

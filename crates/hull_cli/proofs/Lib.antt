@@ -4,4 +4,5 @@ pub mod CrossLines
 pub mod Listed
 pub mod Numbers
 pub mod Parts
+pub mod Plans
 pub mod StabilityLines

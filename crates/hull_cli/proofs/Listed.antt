@@ -2,7 +2,7 @@
 use Rattle.std.proofs.Common.{◌≡◌, ◌∙◌, refl, sym, ap, subst, ℕ, suc, ◌+◌, List, [], ◌∷◌, ◌++◌, length, append_assoc, Result, Ok, Err, IfOk, IfErr, arith}
 use Rattle.std.specs.List.{AllByRecursion}
 use Rattle.std.proofs.lemmas.List.{append-nil}
-use Rattle.hull_cli.specs.Lists.{Joined, NumberedFrom, Pairwise}
+use Rattle.hull_cli.specs.Lists.{Joined, NumberedFrom, NumberedPairs, Pairwise}
 
 pub all_more : {A : Type 0} (P : A → Type 0) (xs ys : List A) → AllByRecursion P xs → AllByRecursion P ys → AllByRecursion P (xs ++ ys)
 all_more P [] ys all more = more
@@ -17,6 +17,13 @@ pairs_more R (a' ∷ others) (b' ∷ bs) a b pairs more = (pairs.0, pairs_more R
 pub numbered_more : {A : Type 0} (R : ℕ → A → Type 0) (from : ℕ) (entries : List A) (n : ℕ) (one : A) → NumberedFrom R from entries → n ≡ length entries + from → R n one → NumberedFrom R from (entries ++ one ∷ [])
 numbered_more R from [] n one are place more = (subst (λ (k : ℕ). R k one) (omega (arith, place)) more, tt)
 numbered_more R from (first ∷ rest) n one are place more = (are.0, numbered_more R (suc from) rest n one are.1 (omega (arith, place)) more)
+
+pub numbered_pairs_more : {A B : Type 0} (R : ℕ → A → B → Type 0) (from : ℕ) (one : List A) (two : List B) (n : ℕ) (a : A) (b : B) → NumberedPairs R from one two → n ≡ length two + from → R n a b
+    → NumberedPairs R from (one ++ a ∷ []) (two ++ b ∷ [])
+numbered_pairs_more R from [] [] n a b pairs place more = (subst (λ (k : ℕ). R k a b) (omega (arith, place)) more, tt)
+numbered_pairs_more R from [] (b' ∷ bs) n a b pairs place more = absurd pairs
+numbered_pairs_more R from (a' ∷ others) [] n a b pairs place more = absurd pairs
+numbered_pairs_more R from (a' ∷ others) (b' ∷ bs) n a b pairs place more = (pairs.0, numbered_pairs_more R (suc from) others bs n a b pairs.1 (omega (arith, place)) more)
 
 pub joined_more : {A B : Type 0} (part : A → List B → Type 0) (ones : List A) (one : A) (lines more : List B) → Joined part ones lines → part one more → Joined part (ones ++ one ∷ []) (lines ++ more)
 joined_more part [] one lines more none is = (more, [], rw none (sym (append-nil more)), is, refl)

@@ -24,24 +24,30 @@ use Rattle.hull_polyhedron.specs.declared.faces.Faces.{Faces}
 use Rattle.dynamic_lever.specs.declared.rows.Arm.{Arm}
 use Rattle.dynamic_lever.specs.declared.rows.ArmTable.{ArmTable}
 use Rattle.dynamic_lever.specs.declared.rows.UprightRow.{UprightRow}
+use Rattle.intact_criteria.proofs.AreasHeld.{areas_hold}
 use Rattle.intact_criteria.proofs.Rows.{rows_suffice}
-use Rattle.intact_criteria.specs.AreaToFlooding.{area_between}
+use Rattle.intact_criteria.specs.Areas.{area_at}
 use Rattle.intact_criteria.specs.Brackets.{ByBrackets}
 use Rattle.intact_criteria.specs.Marks.{AreFindings}
 use Rattle.intact_criteria.specs.Narrow.{IsAsNarrowAsRead}
 use Rattle.intact_criteria.specs.Open.{IsOpenIfUndecided}
-use Rattle.intact_criteria.specs.Readings.{Ends, HasEnds, gz_at, readings_of, separation_at}
+use Rattle.intact_criteria.specs.Readings.{Ends, HasEnds, gz_at, readings_of}
 use Rattle.intact_criteria.specs.Right.{AreRightMarks, IsRightVerdict}
 use Rattle.intact_criteria.specs.Tables.{AreRowsOf, HoldFigures}
 use Rattle.intact_criteria.specs.declared.finding.Findings.{Findings}
 use Rattle.intact_criteria.specs.declared.finding.Side.TheVariants.{Port}
+use Rattle.job_reader.specs.declared.job.Item.{Item}
 use Rattle.job_reader.specs.declared.job.Job.{Job}
+use Rattle.report_run.specs.declared.stop.Refusal.TheVariants as refusal
+use Rattle.report_run.specs.declared.stop.Stop.{Stop}
+use Rattle.report_run.specs.declared.stop.Stop.TheVariants as stop
 use Rattle.loading_sheet.specs.Centre.{displaced}
 use Rattle.loading_sheet.specs.Loads.{IsLoadingOf}
 use Rattle.loading_sheet.specs.declared.loading.Loading.{Loading}
 use Rattle.hull_report.specs.declared.line.Line.{Line}
 use Rattle.hull_report.specs.declared.line.Line.TheVariants as line
 use Rattle.hull_cli.specs.Floats.{FloatsBetween}
+use Rattle.hull_cli.specs.Stops.{StopsLoad, StopsStability}
 use Rattle.hull_cli.specs.Stability.{AreInMetres, IsArmLine, IsInMetres, IsJudged, NamesCriterion}
 
 -- a distance of the centre, in units of 2^-20 mm
@@ -82,7 +88,7 @@ in_metres ends span f has printed =
     subst (λ (lo : ℤ). IsPrinted 20 3 6 lo ends.hi f.lo f.hi) has.low (subst (λ (hi : ℤ). IsPrinted 20 3 6 span.lo hi f.lo f.hi) has.high printed)
 
 pub arm_line_is : (arms : ArmTable) (k : ℕ) (arm : Arm) → slice_get arms.rows k ≡ Some arm → (lever area : Span 20)
-    → HasEnds (gz_at arms Port k) lever → HasEnds (area_between (separation_at arms Port) 0 k) area → (f g : Figure) → IsInMetres lever f → IsInMetres area g
+    → HasEnds (gz_at arms Port k) lever → HasEnds (area_at arms Port k) area → (f g : Figure) → IsInMetres lever f → IsInMetres area g
     → IsArmLine arms k (line.Arm k arm.drafts.d1 arm.drafts.d2 f g)
 arm_line_is arms k arm there lever area has_lever has_area f g lever_printed area_printed = record {
   arm = arm;
@@ -90,7 +96,7 @@ arm_line_is arms k arm there lever area has_lever has_area f g lever_printed are
   lever = f;
   printed_lever = in_metres (gz_at arms Port k) lever f has_lever lever_printed;
   area = g;
-  printed_area = in_metres (area_between (separation_at arms Port) 0 k) area g has_area area_printed;
+  printed_area = in_metres (area_at arms Port k) area g has_area area_printed;
   fields = refl;
 }
 
@@ -107,13 +113,13 @@ module _ (hull : List Station) (is : IsHull hull) (faces : Faces) (boundary : Ar
       let row = rows.rows k arm there in
       record { faces = faces; boundary = boundary; bracket = row.0; degrees = row.1; sharp = row.2.drafts hull is boundary }
 
-  pub judged_is : (findings : Findings) → IsLoadingOf job.items loading → ByBrackets (λ brackets. AreFindings (readings_of brackets arms upright job.openings) findings)
+  pub judged_is : (findings : Findings) → length arms.rows ≡ 91 → IsLoadingOf job.items loading → ByBrackets (λ brackets. AreFindings (readings_of brackets arms upright job.openings) findings)
       → ((hull : List Station) (loading : Loading) (water : Water) → HoldFigures hull loading water arms upright → AreRightMarks hull loading water arms upright job.openings findings.marks)
       → ((hull : List Station) (loading : Loading) (water : Water) → HoldFigures hull loading water arms upright → IsRightVerdict hull loading water arms upright job.openings findings.verdict)
       → ByBrackets (λ brackets. IsOpenIfUndecided (readings_of brackets arms upright job.openings) findings.verdict)
       → ByBrackets (λ brackets. IsAsNarrowAsRead (readings_of brackets arms upright job.openings) findings.verdict)
       → IsJudged hull job loading arms upright findings
-  judged_is findings loaded rules marks verdict undecided narrow =
+  judged_is findings count loaded rules marks verdict undecided narrow =
       let hold = rows_suffice.figures faces loading job.water arms upright rows hull is boundary in
       record {
         loaded = loaded;
@@ -122,9 +128,17 @@ module _ (hull : List Station) (is : IsHull hull) (faces : Faces) (boundary : Ar
         rows = rows;
         floats = floats;
         floats_upright = record { faces = faces; boundary = boundary; bracket = rows.row.0; degrees = rows.row.1; sharp = rows.row.2.drafts hull is boundary };
+        areas = areas_hold.contained hull loading job.water arms upright job.openings count hold;
         rules = rules;
         marks = marks hull loading job.water hold;
         verdict = verdict hull loading job.water hold;
         undecided = undecided;
         narrow = narrow;
       }
+
+-- items that make no loading stop the command
+pub load_stops : (hull : List Station) (water : Water) (items : List Item) (why : Stop) → StopsLoad items why → StopsStability hull water items why
+load_stops hull water items (stop.Refused (refusal.Load fault)) stops = stops
+load_stops hull water items (stop.Refused _) stops = absurd stops
+load_stops hull water items (stop.Unread file) stops = absurd stops
+load_stops hull water items stop.NoMemory stops = tt

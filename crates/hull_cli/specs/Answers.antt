@@ -39,6 +39,11 @@ abbrev pub DueToMasses : List Station → Water → List ℕ → Refusal → Typ
 DueToMasses hull water masses (refusal.Heavy mass six) = IsFirstTooHeavy hull water masses mass × (six ≡ six_of hull)
 DueToMasses hull water masses _ = ⊥
 
+-- this refusal is due to the items, which make no loading
+abbrev pub DueToLoad : List Item → Refusal → Type 0
+DueToLoad items (refusal.Load fault) = IsLoadFaultOf items fault
+DueToLoad items _ = ⊥
+
 -- this refusal is due to the items, which make no loading, or to their loading, which is too heavy for the hull
 abbrev pub DueToItems : List Station → Water → List Item → Refusal → Type 0
 DueToItems hull water items (refusal.Load fault) = IsLoadFaultOf items fault
@@ -49,6 +54,8 @@ DueToItems hull water items _ = ⊥
 abbrev pub DueToCommand : Command → Job → List Station → Refusal → Type 0
 DueToCommand command.Cross job hull cause = DueToMasses hull job.water job.masses cause
 DueToCommand command.Stability job hull cause = DueToItems hull job.water job.items cause
+DueToCommand command.Damage job hull cause = DueToLoad job.items cause
+DueToCommand command.Floodable job hull cause = DueToLoad job.items cause
 DueToCommand _ job hull cause = ⊥
 
 -- this refusal is due to what a command with these files asks for; the offset file counts only where the job was read,

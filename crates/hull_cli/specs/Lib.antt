@@ -1,6 +1,8 @@
 pub mod Answers
 pub mod Curves
+pub mod Damages
 pub mod Floats
+pub mod Lengths
 pub mod Lists
 pub mod Report
 pub mod Requests

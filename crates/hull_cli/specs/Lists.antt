@@ -13,6 +13,13 @@ abbrev pub NumberedFrom : {A : Type 0} → (ℕ → A → Type 0) → ℕ → Li
 NumberedFrom R n [] = ⊤
 NumberedFrom R n (a ∷ others) = R n a × NumberedFrom R (suc n) others
 
+-- two lists of one length, of which what stands in the same place is so related to each other and to its number, where the first has this one
+abbrev pub NumberedPairs : {A B : Type 0} → (ℕ → A → B → Type 0) → ℕ → List A → List B → Type 0
+NumberedPairs R n [] [] = ⊤
+NumberedPairs R n [] (b ∷ bs) = ⊥
+NumberedPairs R n (a ∷ others) [] = ⊥
+NumberedPairs R n (a ∷ others) (b ∷ bs) = R n a b × NumberedPairs R (suc n) others bs
+
 -- the entries of parts, one part after the other, each in its relation to what it is made of
 abbrev pub Joined : {A B : Type 0} → (A → List B → Type 0) → List A → List B → Type 0
 Joined part [] entries = entries ≡ []

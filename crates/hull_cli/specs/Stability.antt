@@ -13,13 +13,13 @@ use Rattle.loading_sheet.specs.declared.loading.Loading.{Loading}
 use Rattle.dynamic_lever.specs.declared.rows.Arm.{Arm}
 use Rattle.dynamic_lever.specs.declared.rows.ArmTable.{ArmTable}
 use Rattle.dynamic_lever.specs.declared.rows.UprightRow.{UprightRow}
-use Rattle.intact_criteria.specs.AreaToFlooding.{area_between}
+use Rattle.intact_criteria.specs.Areas.{area_at, ContainAreas}
 use Rattle.intact_criteria.specs.Brackets.{ByBrackets}
 use Rattle.intact_criteria.specs.Marks.{AreFindings}
 use Rattle.intact_criteria.specs.Narrow.{IsAsNarrowAsRead}
 use Rattle.intact_criteria.specs.Open.{IsOpenIfUndecided}
-use Rattle.intact_criteria.specs.Readings.{Ends, ends_of, gz_at, readings_of, separation_at}
-use Rattle.intact_criteria.specs.Right.{AreRightMarks, IsRightVerdict}
+use Rattle.intact_criteria.specs.Readings.{Ends, ends_of, gz_at, readings_of}
+use Rattle.intact_criteria.specs.Right.{AreRightMarks, AtEveryChoice, IsRightVerdict}
 use Rattle.intact_criteria.specs.Tables.{AreRowsOf}
 use Rattle.intact_criteria.specs.declared.finding.Findings.{Findings}
 use Rattle.intact_criteria.specs.declared.finding.Mark.{Mark}
@@ -49,8 +49,8 @@ abbrev pub IsInMetres : Span 20 → Figure → Type 0
 IsInMetres s f = AreInMetres (ends_of s) f
 
 -- ---- what is judged
--- the levers of a hull with the loading of a job's items, and what the rules find in them: marks and a verdict that are right at
--- every choice of waterplanes between the drafts of the rows
+-- the levers of a hull with the loading of a job's items, and what the rules find in them: areas that contain the exact ones, marks and
+-- a verdict that are right, at every choice of waterplanes between the drafts of the rows
 pub record IsJudged (hull : List Station) (job : Job) (loading : Loading) (arms : ArmTable) (upright : UprightRow) (findings : Findings) : Type 0 where
   pub loaded : IsLoadingOf job.items loading
   pub faces : Faces
@@ -58,6 +58,7 @@ pub record IsJudged (hull : List Station) (job : Job) (loading : Loading) (arms 
   pub rows : AreRowsOf faces loading job.water arms upright
   pub floats : (k : ℕ) (arm : Arm) → slice_get arms.rows k ≡ Some arm → FloatsBetween hull (displaced loading job.water) k arm.drafts.d1 arm.drafts.d2
   pub floats_upright : FloatsBetween hull (displaced loading job.water) 0 upright.drafts.d1 upright.drafts.d2
+  pub areas : AtEveryChoice hull loading job.water arms upright job.openings (ContainAreas arms)
   pub rules : ByBrackets (λ brackets. AreFindings (readings_of brackets arms upright job.openings) findings)
   pub marks : AreRightMarks hull loading job.water arms upright job.openings findings.marks
   pub verdict : IsRightVerdict hull loading job.water arms upright job.openings findings.verdict
@@ -93,7 +94,7 @@ pub record IsArmLine (arms : ArmTable) (k : ℕ) (l : Line) : Type 0 where
   pub lever : Figure
   pub printed_lever : AreInMetres (gz_at arms Port k) lever
   pub area : Figure
-  pub printed_area : AreInMetres (area_between (separation_at arms Port) 0 k) area
+  pub printed_area : AreInMetres (area_at arms Port k) area
   pub fields : l ≡ line.Arm k arm.drafts.d1 arm.drafts.d2 lever area
 
 -- one for each degree from 0 to 90

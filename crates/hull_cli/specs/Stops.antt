@@ -11,7 +11,7 @@ use Rattle.report_run.specs.declared.stop.Refusal.TheVariants.{Heavy, Station}
 use Rattle.report_run.specs.declared.stop.Stop.{Stop}
 use Rattle.report_run.specs.declared.stop.Stop.TheVariants as stop
 use Rattle.report_run.specs.Shelves.{Shelves}
-use Rattle.hull_cli.specs.Answers.{Due, DueTo, DueToCommand, DueToItems, DueToMasses, LeftUnread, UnreadBy}
+use Rattle.hull_cli.specs.Answers.{Due, DueTo, DueToCommand, DueToItems, DueToLoad, DueToMasses, LeftUnread, UnreadBy}
 use Rattle.hull_cli.specs.Words.{Form}
 
 -- Want of memory may come at any time.
@@ -47,6 +47,12 @@ abbrev pub StopsCurves : List model.Station → Water → List ℕ → Stop → 
 StopsCurves hull water masses (stop.Refused cause) = DueToMasses hull water masses cause
 StopsCurves hull water masses (stop.Unread _) = ⊥
 StopsCurves hull water masses stop.NoMemory = ⊤
+
+-- why these items make no loading
+abbrev pub StopsLoad : List Item → Stop → Type 0
+StopsLoad items (stop.Refused cause) = DueToLoad items cause
+StopsLoad items (stop.Unread _) = ⊥
+StopsLoad items stop.NoMemory = ⊤
 
 -- why nothing is said of the stability of a hull with these items
 abbrev pub StopsStability : List model.Station → Water → List Item → Stop → Type 0

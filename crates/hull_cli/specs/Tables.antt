@@ -14,6 +14,8 @@ use Rattle.hull_report.specs.declared.line.Command.TheVariants as command
 use Rattle.hull_report.specs.declared.line.Line.{Line}
 use Rattle.hull_report.specs.declared.line.Line.TheVariants as line
 use Rattle.hull_cli.specs.Curves.{AreCrossLines}
+use Rattle.hull_cli.specs.Damages.{AreDamageLines}
+use Rattle.hull_cli.specs.Lengths.{AreFloodableLines}
 use Rattle.hull_cli.specs.Lists.{Joined, Pairwise}
 use Rattle.hull_cli.specs.Sections.{AreSectionLines}
 use Rattle.hull_cli.specs.Stability.{AreStabilityLines}
@@ -72,4 +74,6 @@ AreTableLines command.Hydro hull job lines = AreHydroLines hull job.water job.dr
 AreTableLines command.Bonjean hull job lines = AreBonjeanLines hull job.drafts lines
 AreTableLines command.Cross hull job lines = AreCrossLines hull job.water job.masses lines
 AreTableLines command.Stability hull job lines = AreStabilityLines hull job lines
+AreTableLines command.Damage hull job lines = AreDamageLines hull job lines
+AreTableLines command.Floodable hull job lines = AreFloodableLines hull job lines
 AreTableLines _ hull job lines = ⊥

@@ -38,13 +38,17 @@ table_command word =
     if bytes_eq word (codes "hydro") then Some command.Hydro else
     if bytes_eq word (codes "bonjean") then Some command.Bonjean else
     if bytes_eq word (codes "cross") then Some command.Cross else
-    if bytes_eq word (codes "stability") then Some command.Stability else None
+    if bytes_eq word (codes "stability") then Some command.Stability else
+    if bytes_eq word (codes "damage") then Some command.Damage else
+    if bytes_eq word (codes "floodable") then Some command.Floodable else None
 
 abbrev pub HasTables : Command → Type 0
 HasTables command.Hydro = ⊤
 HasTables command.Bonjean = ⊤
 HasTables command.Cross = ⊤
 HasTables command.Stability = ⊤
+HasTables command.Damage = ⊤
+HasTables command.Floodable = ⊤
 HasTables _ = ⊥
 
 -- COMMAND JOB OFFSETS

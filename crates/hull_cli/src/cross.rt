@@ -10,6 +10,7 @@ ghost use Rattle.loading_sheet.specs.Centre.{displaced_by};
 ghost use Rattle.hull_cli.specs.Curves.{AreCrossLines, IsCrossLine, IsCurve};
 ghost use Rattle.hull_cli.specs.Stops.{StopsCurve, StopsCurves};
 
+use crate::units::{PLACES, TO_METRES};
 use angle_bounds::{Degree, bracket_of};
 use cross_curves::kn_near;
 use draft_bracket::{Guess, TooHeavy};
@@ -20,9 +21,6 @@ use hull_report::Line;
 use loading_sheet::volume_displaced;
 use report_run::{Refusal, Stop};
 use std::alloc::Global;
-
-/// Decimals of KN in m.
-const PLACES: u32 = 6;
 
 /// The lines of a hull at displacements in kg: for each a line at every whole degree of heel. Stops at the first that is
 /// too heavy. The faces are the hull's boundary.
@@ -92,7 +90,7 @@ fn cross_line(
             degree,
             d1: cell.drafts.d1,
             d2: cell.drafts.d2,
-            kn: cell.kn.figure(3, PLACES),
+            kn: cell.kn.figure(TO_METRES, PLACES),
         }),
         Err(e) => Err(e),
     }

@@ -7,17 +7,12 @@ ghost use Rattle.intact_criteria.specs.declared.finding.Shown.TheVariants as sho
 ghost use Rattle.hull_cli.specs.Stability as spec;
 ghost use Rattle.hull_cli.specs.Stability.{AreMarkLines, IsCallOf, IsMarkLine, IsShownLine, IsVerdictLine, NamesCriterion};
 
+use crate::units::{PLACES, TO_METRES};
 use exact_fraction::Memory;
 use hull_report::{Call, Finding, Line, ShownLine};
 use intact_criteria::{Mark, Shown, Verdict};
 use outward_interval::Span;
 use std::alloc::Global;
-
-/// Decimals of the figures.
-const PLACES: u32 = 6;
-
-/// Of a span in mm, or in mm·rad, the power of ten to m.
-const TO_METRES: u32 = 3;
 
 /// The marks of the six criteria.
 pub(crate) fn mark_lines(alloc: Global, marks: &[Mark; 6]) -> Result<Vec<Line>, Memory>

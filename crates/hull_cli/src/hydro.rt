@@ -10,6 +10,7 @@ ghost use Rattle.hull_report.specs.Spelling.{IsLine, IsWord, AreLines, AreWords,
 ghost use Rattle.hull_cli.specs.Lists.{Pairwise};
 ghost use Rattle.hull_cli.specs.Tables.{AreHydroLines, IsHydroLine, IsFigureOf, IsColumnFigure, columns_of};
 
+use crate::units::PLACES;
 use exact_fraction::Memory;
 use hull_model::Water;
 use hull_polyhedron::Faces;
@@ -17,9 +18,6 @@ use hull_report::Line;
 use hydro_tables::{HydroRow, hydro_row};
 use outward_interval::{Figure, Span};
 use std::alloc::Global;
-
-/// Decimals of the figures.
-const PLACES: u32 = 6;
 
 /// The lines of a hull at drafts; the faces are the hull's boundary.
 pub(crate) fn hydro_lines(

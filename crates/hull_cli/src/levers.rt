@@ -6,18 +6,13 @@ ghost use Rattle.hull_report.specs.Spelling.{AreLines, IsLine};
 ghost use Rattle.intact_criteria.specs.Tables.{AreSmallArms};
 ghost use Rattle.hull_cli.specs.Stability.{AreArmLines, IsArmLine, IsLoadLine, IsUprightLine};
 
+use crate::units::{PLACES, TO_METRES};
 use dynamic_lever::{ArmTable, UprightRow};
 use exact_fraction::Memory;
 use hull_report::Line;
 use intact_criteria::{Side, area, arm_at, gz};
 use loading_sheet::Loading;
 use std::alloc::Global;
-
-/// Decimals of the figures.
-const PLACES: u32 = 6;
-
-/// Of a span in mm, or in mm·rad, the power of ten to m.
-const TO_METRES: u32 = 3;
 
 /// The mass, and where its centre lies.
 pub(crate) fn load_line(loading: &Loading) -> Line

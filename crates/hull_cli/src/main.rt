@@ -3,13 +3,17 @@
 
 mod commands;
 mod cross;
+mod damage;
 mod findings;
+mod floodable;
 mod hull_line;
 mod hydro;
 mod levers;
+mod loading;
 mod section;
 mod stability;
 mod tables;
+mod units;
 mod verdict;
 mod words;
 

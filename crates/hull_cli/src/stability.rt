@@ -1,8 +1,6 @@
 // The stability of a hull with the items of a job.
-ghost use Rattle.std.specs.Prelude.{◌≡◌, ◌≤◌, List, IfOk, IfErr, length};
+ghost use Rattle.std.specs.Prelude.{◌≡◌, List, IfOk, IfErr, length};
 ghost use Rattle.draft_bracket.specs.DraftBracket.{OfHulls};
-ghost use Rattle.hull_model.specs.declared.station.Station.{Station};
-ghost use Rattle.hull_model.specs.declared.water.Water.{Water};
 ghost use Rattle.hull_report.specs.Spelling.{AreLines};
 ghost use Rattle.intact_criteria.specs.Bounds.{IsBoundedVerdict};
 ghost use Rattle.intact_criteria.specs.Tables.{AreRowsOf};
@@ -13,6 +11,7 @@ ghost use Rattle.hull_cli.specs.Stops.{StopsStability};
 
 use crate::findings::{mark_lines, verdict_line};
 use crate::levers::{arm_lines, load_line, upright_line};
+use crate::loading::loading_of;
 use draft_bracket::TooHeavy;
 use dynamic_lever::{ArmTable, UprightRow, arms, upright};
 use exact_fraction::Memory;
@@ -20,8 +19,8 @@ use hull_model::Water;
 use hull_polyhedron::Faces;
 use hull_report::Line;
 use intact_criteria::{Findings, judge};
-use job_reader::{Item, Job};
-use loading_sheet::{Loading, load};
+use job_reader::Job;
+use loading_sheet::Loading;
 use report_run::{Refusal, Stop};
 use std::alloc::Global;
 
@@ -36,17 +35,6 @@ pub(crate) fn stability_lines(alloc: Global, faces: &Faces, job: &Job) -> Result
     let loading = loading_of(job.items.as_slice())?;
     let standing = standing_of(faces, &loading, &job.water)?;
     Ok(judged_lines(alloc, faces, job, &loading, &standing)?)
-}
-
-fn loading_of(items: &[Item]) -> Result<Loading, Stop>
-    requires { length items.now ≤ 256 }
-    ensures loading { IfOk result (IsLoadingOf items.now) }
-    ensures stops { IfErr result (λ why. (hull : List Station) (water : Water) → StopsStability hull water items.now why) }
-{
-    match load(items) {
-        Ok(loading) => Ok(loading),
-        Err(fault) => Err(Stop::Refused(Refusal::Load(fault))),
-    }
 }
 
 // The levers of a loading, and the ship upright.

@@ -12,6 +12,8 @@ ghost use Rattle.hull_cli.specs.Tables.{AreBonjeanLines, AreTableLines};
 ghost use Rattle.hull_cli.specs.Words.{HasTables};
 
 use crate::cross::cross_lines;
+use crate::damage::damage_lines;
+use crate::floodable::floodable_lines;
 use crate::hull_line::hull_line;
 use crate::hydro::hydro_lines;
 use crate::section::section_lines;
@@ -69,6 +71,8 @@ fn table_lines(
         Command::Bonjean => Ok(bonjean_lines(alloc, hull, drafts)?),
         Command::Cross => cross_lines(alloc, faces, &job.water, job.masses.as_slice()),
         Command::Stability => stability_lines(alloc, faces, job),
+        Command::Damage => damage_lines(alloc, faces, job),
+        Command::Floodable => floodable_lines(alloc, hull, faces, job),
         _ => unreachable!(),
     }
 }

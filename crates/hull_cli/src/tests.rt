@@ -1,5 +1,5 @@
+mod barge;
 mod cargo;
-mod heeled;
 mod refusals;
 mod reports;
 mod words;

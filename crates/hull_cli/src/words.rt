@@ -94,6 +94,8 @@ fn table_command(word: &str) -> Option<Command>
         "bonjean" => Some(Command::Bonjean),
         "cross" => Some(Command::Cross),
         "stability" => Some(Command::Stability),
+        "damage" => Some(Command::Damage),
+        "floodable" => Some(Command::Floodable),
         _ => None,
     }
 }

@@ -4,7 +4,7 @@ use Rattle.std.proofs.lemmas.Int.{to_z-of_z}
 use Rattle.std.specs.Int.{w64}
 use mir.Val.{SFits}
 use Rattle.flux_moments.proofs.Levels.{fits_within, before_within, behind_within, length_is, length_within, size_joined, level_fits}
-use Rattle.compartment_loss.specs.declared.upright.Way.{Way}
+use Rattle.compartment_loss.specs.declared.way.Way.{Way}
 use Rattle.compartment_loss.proofs.upright.level_at.Goals as goal
 
 -- the place lies between the stations

@@ -53,6 +53,7 @@ returns-clause-mx_ends c =
 
 pub returns-clause-volume : goal.returns-clause-volume
 returns-clause-volume c plane is =
+    let placed = three_corners (IsBetween c.args.way.first c.args.way.last) c.args.face.now c.requires.face c.requires.between in
     let first = c.args.way.first in
     let last = c.args.way.last in
     let face = c.args.face.now in
@@ -60,10 +61,11 @@ returns-clause-volume c plane is =
     subst (λ (x : Fraction). ContainsFraction 20 c.times_whole.result.lo c.times_whole.result.hi x)
     (volume_is c.args.planes.now c.requires.upright plane is first last face c.requires.face)
     ((rw c.factor_of-factor.ensures at (simp to_z-of_z at c.times_whole.ensures.contains)) _ (c.wet_depths-means.ensures.depth (depths plane first last face c.requires.face)
-    (c.depth_of-first.ensures.contains plane is, c.depth_of-second.ensures.contains plane is, c.depth_of-third.ensures.contains plane is)))
+    (c.depth_of-first.ensures.contains c.args.planes.now c.args.way c.requires.upright c.with-at_p.ensures.near placed.0 plane is, c.depth_of-second.ensures.contains c.args.planes.now c.args.way c.requires.upright c.with-at_q.ensures.near placed.1 plane is, c.depth_of-third.ensures.contains c.args.planes.now c.args.way c.requires.upright c.with-at_r.ensures.near placed.2 plane is)))
 
 pub returns-clause-mx : goal.returns-clause-mx
 returns-clause-mx c plane is =
+    let placed = three_corners (IsBetween c.args.way.first c.args.way.last) c.args.face.now c.requires.face c.requires.between in
     let first = c.args.way.first in
     let last = c.args.way.last in
     let face = c.args.face.now in
@@ -72,11 +74,11 @@ returns-clause-mx c plane is =
     let mean = each_at (EnclosesMean 20 spans) c.wet_depths-means.result.weighted weighted_means in
     let d = depths plane first last face c.requires.face in
     let m0 = mean 0 c.index-means-0.result (weighted_depth 0) (omega arith) c.wet_depths-means.ensures.weighted d
-    (c.depth_of-first.ensures.contains plane is, c.depth_of-second.ensures.contains plane is, c.depth_of-third.ensures.contains plane is) in
+    (c.depth_of-first.ensures.contains c.args.planes.now c.args.way c.requires.upright c.with-at_p.ensures.near placed.0 plane is, c.depth_of-second.ensures.contains c.args.planes.now c.args.way c.requires.upright c.with-at_q.ensures.near placed.1 plane is, c.depth_of-third.ensures.contains c.args.planes.now c.args.way c.requires.upright c.with-at_r.ensures.near placed.2 plane is) in
     let m1 = mean 1 c.index-means-1.result (weighted_depth 1) (omega arith) c.wet_depths-means.ensures.weighted d
-    (c.depth_of-first.ensures.contains plane is, c.depth_of-second.ensures.contains plane is, c.depth_of-third.ensures.contains plane is) in
+    (c.depth_of-first.ensures.contains c.args.planes.now c.args.way c.requires.upright c.with-at_p.ensures.near placed.0 plane is, c.depth_of-second.ensures.contains c.args.planes.now c.args.way c.requires.upright c.with-at_q.ensures.near placed.1 plane is, c.depth_of-third.ensures.contains c.args.planes.now c.args.way c.requires.upright c.with-at_r.ensures.near placed.2 plane is) in
     let m2 = mean 2 c.index-means-2.result (weighted_depth 2) (omega arith) c.wet_depths-means.ensures.weighted d
-    (c.depth_of-first.ensures.contains plane is, c.depth_of-second.ensures.contains plane is, c.depth_of-third.ensures.contains plane is) in
+    (c.depth_of-first.ensures.contains c.args.planes.now c.args.way c.requires.upright c.with-at_p.ensures.near placed.0 plane is, c.depth_of-second.ensures.contains c.args.planes.now c.args.way c.requires.upright c.with-at_q.ensures.near placed.1 plane is, c.depth_of-third.ensures.contains c.args.planes.now c.args.way c.requires.upright c.with-at_r.ensures.near placed.2 plane is) in
     subst (λ (x : Fraction). ContainsFraction 20 c.times_whole-2.result.lo c.times_whole-2.result.hi x)
     (mx_is c.args.planes.now c.requires.upright plane is first last face c.requires.face)
     ((rw c.factor_of-factor.ensures at (simp to_z-of_z at c.times_whole-2.ensures.contains)) _ (sum_contains 20 _ _ _ _ _ _ _ _ c.add-moment.ensures
@@ -84,6 +86,7 @@ returns-clause-mx c plane is =
 
 pub returns-clause-volume_width : goal.returns-clause-volume_width
 returns-clause-volume_width c b h is some reached =
+    let placed = three_corners (IsBetween c.args.way.first c.args.way.last) c.args.face.now c.requires.face c.requires.between in
     let face = c.args.face.now in
     let factor : SFits w128 c.factor_of-factor.result = record { sfits = c.factor_of-factor.type_inv } in
     let each = three_corners (Reaches b h) face c.requires.face reached in
@@ -92,8 +95,8 @@ returns-clause-volume_width c b h is some reached =
     let third = c.depth_of-third in
     volume_narrow (spread b h) h (doubled_area face) b.turn (column_sizes c.args.planes.now b is h some (unsigned_abs face.ay + unsigned_abs face.az))
     first.result second.result third.result
-    (first.ensures.narrow b h is each.0, second.ensures.narrow b h is each.1, third.ensures.narrow b h is each.2)
-    (first.ensures.near b h is each.0, second.ensures.near b h is each.1, third.ensures.near b h is each.2)
+    (first.ensures.narrow c.args.planes.now c.args.way c.with-at_p.ensures.near placed.0 b h is each.0, second.ensures.narrow c.args.planes.now c.args.way c.with-at_q.ensures.near placed.1 b h is each.1, third.ensures.narrow c.args.planes.now c.args.way c.with-at_r.ensures.near placed.2 b h is each.2)
+    (first.ensures.near c.args.planes.now c.args.way c.with-at_p.ensures.near placed.0 b h is each.0, second.ensures.near c.args.planes.now c.args.way c.with-at_q.ensures.near placed.1 b h is each.1, third.ensures.near c.args.planes.now c.args.way c.with-at_r.ensures.near placed.2 b h is each.2)
     (unsigned_abs c.factor_of-factor.result) (seen_less face c.factor_of-factor.ensures)
     c.wet_depths-means.result.depth c.times_whole.result c.wet_depths-means.ensures.depth_width (simp to_z-of_z at c.times_whole.ensures.width)
 
@@ -111,13 +114,13 @@ returns-clause-mx_width c b h is some reached =
     let sizes = column_sizes c.args.planes.now b is h some (unsigned_abs face.ay + unsigned_abs face.az) in
     let spans = first.result ∷ second.result ∷ third.result ∷ [] in
     let no_wider = each_at (IsNoWider 20 8 spans) c.wet_depths-means.result.weighted weighted_means in
-    let n0 = width_narrow (spread b h) h (doubled_area face) b.turn sizes first.result second.result third.result (first.ensures.narrow b h is each.0, second.ensures.narrow b h is each.1, third.ensures.narrow b h is each.2) (first.ensures.near b h is each.0, second.ensures.near b h is each.1, third.ensures.near b h is each.2) 0 (get_or c.wet_depths-means.result.weighted 0 c.index-means-0.result)
+    let n0 = width_narrow (spread b h) h (doubled_area face) b.turn sizes first.result second.result third.result (first.ensures.narrow c.args.planes.now c.args.way c.with-at_p.ensures.near placed.0 b h is each.0, second.ensures.narrow c.args.planes.now c.args.way c.with-at_q.ensures.near placed.1 b h is each.1, third.ensures.narrow c.args.planes.now c.args.way c.with-at_r.ensures.near placed.2 b h is each.2) (first.ensures.near c.args.planes.now c.args.way c.with-at_p.ensures.near placed.0 b h is each.0, second.ensures.near c.args.planes.now c.args.way c.with-at_q.ensures.near placed.1 b h is each.1, third.ensures.near c.args.planes.now c.args.way c.with-at_r.ensures.near placed.2 b h is each.2) 0 (get_or c.wet_depths-means.result.weighted 0 c.index-means-0.result)
     (no_wider 0 c.index-means-0.result (weighted_depth 0) (omega arith) c.wet_depths-means.ensures.weighted_width) in
-    let n1 = width_narrow (spread b h) h (doubled_area face) b.turn sizes first.result second.result third.result (first.ensures.narrow b h is each.0, second.ensures.narrow b h is each.1, third.ensures.narrow b h is each.2) (first.ensures.near b h is each.0, second.ensures.near b h is each.1, third.ensures.near b h is each.2) 1 (get_or c.wet_depths-means.result.weighted 1 c.index-means-1.result)
+    let n1 = width_narrow (spread b h) h (doubled_area face) b.turn sizes first.result second.result third.result (first.ensures.narrow c.args.planes.now c.args.way c.with-at_p.ensures.near placed.0 b h is each.0, second.ensures.narrow c.args.planes.now c.args.way c.with-at_q.ensures.near placed.1 b h is each.1, third.ensures.narrow c.args.planes.now c.args.way c.with-at_r.ensures.near placed.2 b h is each.2) (first.ensures.near c.args.planes.now c.args.way c.with-at_p.ensures.near placed.0 b h is each.0, second.ensures.near c.args.planes.now c.args.way c.with-at_q.ensures.near placed.1 b h is each.1, third.ensures.near c.args.planes.now c.args.way c.with-at_r.ensures.near placed.2 b h is each.2) 1 (get_or c.wet_depths-means.result.weighted 1 c.index-means-1.result)
     (no_wider 1 c.index-means-1.result (weighted_depth 1) (omega arith) c.wet_depths-means.ensures.weighted_width) in
-    let n2 = width_narrow (spread b h) h (doubled_area face) b.turn sizes first.result second.result third.result (first.ensures.narrow b h is each.0, second.ensures.narrow b h is each.1, third.ensures.narrow b h is each.2) (first.ensures.near b h is each.0, second.ensures.near b h is each.1, third.ensures.near b h is each.2) 2 (get_or c.wet_depths-means.result.weighted 2 c.index-means-2.result)
+    let n2 = width_narrow (spread b h) h (doubled_area face) b.turn sizes first.result second.result third.result (first.ensures.narrow c.args.planes.now c.args.way c.with-at_p.ensures.near placed.0 b h is each.0, second.ensures.narrow c.args.planes.now c.args.way c.with-at_q.ensures.near placed.1 b h is each.1, third.ensures.narrow c.args.planes.now c.args.way c.with-at_r.ensures.near placed.2 b h is each.2) (first.ensures.near c.args.planes.now c.args.way c.with-at_p.ensures.near placed.0 b h is each.0, second.ensures.near c.args.planes.now c.args.way c.with-at_q.ensures.near placed.1 b h is each.1, third.ensures.near c.args.planes.now c.args.way c.with-at_r.ensures.near placed.2 b h is each.2) 2 (get_or c.wet_depths-means.result.weighted 2 c.index-means-2.result)
     (no_wider 2 c.index-means-2.result (weighted_depth 2) (omega arith) c.wet_depths-means.ensures.weighted_width) in
-    length_narrow (spread b h) h (doubled_area face) b.turn sizes first.result second.result third.result (first.ensures.narrow b h is each.0, second.ensures.narrow b h is each.1, third.ensures.narrow b h is each.2) (first.ensures.near b h is each.0, second.ensures.near b h is each.1, third.ensures.near b h is each.2)
+    length_narrow (spread b h) h (doubled_area face) b.turn sizes first.result second.result third.result (first.ensures.narrow c.args.planes.now c.args.way c.with-at_p.ensures.near placed.0 b h is each.0, second.ensures.narrow c.args.planes.now c.args.way c.with-at_q.ensures.near placed.1 b h is each.1, third.ensures.narrow c.args.planes.now c.args.way c.with-at_r.ensures.near placed.2 b h is each.2) (first.ensures.near c.args.planes.now c.args.way c.with-at_p.ensures.near placed.0 b h is each.0, second.ensures.near c.args.planes.now c.args.way c.with-at_q.ensures.near placed.1 b h is each.1, third.ensures.near c.args.planes.now c.args.way c.with-at_r.ensures.near placed.2 b h is each.2)
     (unsigned_abs c.factor_of-factor.result) (seen_less face c.factor_of-factor.ensures) (whole last) _ _ _
     (far_at_most begin last _ _ c.args.way.start.0 placed.0 refl)
     (far_at_most begin last _ _ c.args.way.start.0 placed.1 refl)

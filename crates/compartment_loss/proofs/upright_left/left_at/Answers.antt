@@ -40,7 +40,7 @@ returns-clause-volume c stations hull are plane is =
     let within = (simp to_z-of_z at c.box_at-planes.ensures.contains) plane is in
     contains-rest flood.parts.items lost flood.held (shared_column plane faces.first_x faces.last_x (λ p. one)) _ _
     (volume_is_left plane stations hull faces are flood.slabs.items) c.sub.ensures (c.body_at-all.ensures.volume stations hull are plane within)
-    (λ held. c.part_sums-lost.ensures.volume plane lost within (subst (λ (ps : List Part). HoldShares ps lost) (sym c.deref.ensures.value) held))
+    (λ held. c.lost_at-lost.ensures.volume plane lost within (subst (λ (ps : List Part). HoldShares ps lost) (sym c.deref.ensures.value) held))
 
 pub returns-then-is_empty-clause-mx : goal.returns-then-is_empty-clause-mx
 returns-then-is_empty-clause-mx c stations hull are plane is =
@@ -62,7 +62,7 @@ returns-clause-mx c stations hull are plane is =
     let within = (simp to_z-of_z at c.box_at-planes.ensures.contains) plane is in
     contains-rest flood.parts.items lost flood.held (shared_column plane faces.first_x faces.last_x (λ p. p.x)) _ _
     (mx_is_left plane stations hull faces are flood.slabs.items) c.sub-2.ensures (c.body_at-all.ensures.mx stations hull are plane within)
-    (λ held. c.part_sums-lost.ensures.mx plane lost within (subst (λ (ps : List Part). HoldShares ps lost) (sym c.deref.ensures.value) held))
+    (λ held. c.lost_at-lost.ensures.mx plane lost within (subst (λ (ps : List Part). HoldShares ps lost) (sym c.deref.ensures.value) held))
 
 pub returns-then-is_empty-clause-volume_width : goal.returns-then-is_empty-clause-volume_width
 returns-then-is_empty-clause-volume_width c planes is =
@@ -89,7 +89,7 @@ returns-clause-volume_width c planes is =
     (by-kept (narrow-prop 20 _ c.sub.result.lo c.sub.result.hi) flood.limits flood.held (λ limits held.
     let lost = subst (λ (ps : List Part). AreLost faces inner slabs ps) (sym c.deref.ensures.value) (are-lost faces inner flood.slabs.items flood.parts.items some limits held flood.extents) in
     volume-narrow faces inner slabs c.sub.ensures c.body_at-all.ensures.volume_width
-    (c.part_sums-lost.ensures.volume_width (size_of inner) (reach_of faces inner) (lost_bound faces inner slabs one) _ _ lost.reached lost.volumes)))
+    (c.lost_at-lost.ensures.volume_width (size_of inner) (reach_of faces inner) (lost_bound faces inner slabs one) _ _ lost.reached lost.volumes)))
 
 pub returns-then-is_empty-clause-mx_width : goal.returns-then-is_empty-clause-mx_width
 returns-then-is_empty-clause-mx_width c planes is =
@@ -116,4 +116,7 @@ returns-clause-mx_width c planes is =
     (by-kept (narrow-prop 20 _ c.sub-2.result.lo c.sub-2.result.hi) flood.limits flood.held (λ limits held.
     let lost = subst (λ (ps : List Part). AreLost faces inner slabs ps) (sym c.deref.ensures.value) (are-lost faces inner flood.slabs.items flood.parts.items some limits held flood.extents) in
     left-narrow faces inner slabs (whole faces.last_x) c.sub-2.ensures c.body_at-all.ensures.mx_width
-    (c.part_sums-lost.ensures.mx_width (size_of inner) (reach_of faces inner) (lost_bound faces inner slabs (whole faces.last_x)) _ _ lost.reached lost.lengths)))
+    (c.lost_at-lost.ensures.mx_width (size_of inner) (reach_of faces inner) (lost_bound faces inner slabs (whole faces.last_x)) _ _ lost.reached lost.lengths)))
+
+pub lost_at-lost-requires-clause-upright : goal.lost_at-lost-requires-clause-upright
+lost_at-lost-requires-clause-upright c = any_level _ _ c.box_at-planes.result c.box_at-planes.ensures.upright

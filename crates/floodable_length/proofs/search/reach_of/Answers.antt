@@ -1,8 +1,8 @@
 use Rattle.std.proofs.Common.{◌≡◌, pos, ◌*ℤ◌, w64, rules}
 use Rattle.std.proofs.lemmas.Int.{to_z-of_z}
 use mir.Val.{SFits}
-use Rattle.floodable_length.proofs.Gaps.{longest_of, double}
-use Rattle.floodable_length.proofs.Steps.{half-fits, double-fits}
+use Rattle.floodable_length.proofs.Gaps.{longest_of, double, one_above, one_below}
+use Rattle.floodable_length.proofs.Steps.{half-fits, double-fits, steps-fits}
 use Rattle.floodable_length.proofs.search.reach_of.Goals as goal
 
 pub returns : goal.returns
@@ -10,8 +10,8 @@ returns c ship is =
     let gap = c.args.gap.now in
     let half_step = c.args.lengths.now.half_step in
     let limits = c.args.lengths.now.limits in
-    let safe : SFits w64 gap.safe = search rules in
-    let next : SFits w64 gap.next = search rules in
+    let next : SFits w64 gap.next = steps-fits gap.next (one_above c.requires.from c.requires.narrow) c.requires.most in
+    let safe : SFits w64 gap.safe = steps-fits gap.safe c.requires.from (one_below c.requires.most c.requires.narrow) in
     let half : SFits w64 half_step = half-fits half_step limits.some limits.most in
     let step : SFits w64 (pos 2 *ℤ half_step) = double-fits half_step limits.some limits.most in
     let safe-2 : SFits w64 c.product.result = search rules in

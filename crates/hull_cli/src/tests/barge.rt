@@ -1,4 +1,4 @@
-// Curves and verdicts of the barge: words that stand in their reports, and the exit code.
+// Curves, verdicts, damage cases and floodable lengths of the barge: words that stand in their reports, and the exit code.
 use super::{BARGE, bytes_of, shelf_of, words_of};
 use crate::run;
 use desk::MemSink;
@@ -21,6 +21,17 @@ const CASES: &str = "\
 3@stability@refused load nomass/@density = 1025/item = [{name = 'a', mass = 0, x = 0, z = 0}]/\n\
 3@stability@refused load massrange 137438953472/@density = 1025/item = [{name = 'a', mass = 68719476736, x = 0, z = 0}, {name = 'b', mass = 68719476736, x = 0, z = 0}]/\n\
 3@stability@refused heavy 20500001 120000000000000/@density = 1025/item = [{name = 'a', mass = 20500001, x = 0, z = 0}]/\n\
+0@damage@load 10250000 [50.000000,50.000000] [9.100000,9.100000]/damage 1 3792592 3792593 8006584 8006585/damage 2 8006584 8006585 3792592 3792593/end 7/@density = 1025/item = [{name = 'a', mass = 10250000, x = 50000, z = 9100}]/compartment = [{name = 'b', from = 90000, to = 100000, permeability = 1000}, {name = 'c', from = 0, to = 10000, permeability = 1000}]/damage = [{name = 'd0', flooded = ['b']}, {name = 'd1', flooded = ['c']}]/\n\
+0@damage@/damage 1 5119999 5120001 5119999 5120001/@density = 1025/item = [{name = 'a', mass = 10250000, x = 50000, z = 9100}]/compartment = [{name = 'b', from = 90000, to = 100000, permeability = 0}]/damage = [{name = 'd0', flooded = ['b']}]/\n\
+0@damage@/damage 1 5119999 5120001 5119999 5120001/@density = 1025/item = [{name = 'a', mass = 10250000, x = 50000, z = 9100}]/damage = [{name = 'd0', flooded = []}]/\n\
+0@damage@/damage 1 sinks [8000.000000,8000.000000]/@density = 1025/item = [{name = 'a', mass = 10250000, x = 50000, z = 9100}]/compartment = [{name = 'b', from = 0, to = 60000, permeability = 1000}]/damage = [{name = 'd0', flooded = ['b']}]/\n\
+0@damage@/damage 1 nostart fore/@density = 1025/item = [{name = 'a', mass = 10250000, x = 200000, z = 9100}]/damage = [{name = 'd0', flooded = []}]/\n\
+3@damage@refused load nomass/@density = 1025/damage = [{name = 'd0', flooded = []}]/\n\
+0@floodable@/safe 50000 49600 10158729 10158731 10158729 10158731/next 50000 49700 over 0 10178926 10178927 10178926 10178927/end 7/@density = 1025/item = [{name = 'a', mass = 10250000, x = 50000, z = 9100}]/floodable = {centres = [50000], step = 100, permeability = 1000}/\n\
+0@floodable@/safe 200 0 5119999 5120001 5119999 5120001/next 200 500 endofship/@density = 1025/item = [{name = 'a', mass = 10250000, x = 50000, z = 9100}]/floodable = {centres = [200], step = 500, permeability = 1000}/\n\
+0@floodable@/safe 50000 -/next 50000 0 over 0 10190048 10190050 10190048 10190050/safe 20000 -/@density = 1025/item = [{name = 'a', mass = 20400000, x = 50000, z = 9100}]/floodable = {centres = [50000, 20000], step = 100, permeability = 1000}/\n\
+0@floodable@/load 10250000 [50.000000,50.000000] [9.100000,9.100000]/end 5/@density = 1025/item = [{name = 'a', mass = 10250000, x = 50000, z = 9100}]/\n\
+3@floodable@refused load nomass/@density = 1025/\n\
 ";
 
 // Whether a run on this job ends with the code and has written this part.
