@@ -960,9 +960,10 @@ class Everything(Room):
     @unittest.skipUnless(PROGRAM.exists(), "the program isn't built")
     def test_readme_shows_what_the_program_writes(self):
         text = (TOP / "README.md").read_text(encoding="utf-8")
-        asked = [[command, CARGO_JOB, CARGO] for command in ("stability", "hydro", "cross", "bonjean")] + [["section", CARGO, "12", "8000"]]
+        with_job = [command for command, words in refusal_hints.FORMS.items() if words == ["JOB", "OFFSETS"]]
+        asked = [[command, CARGO_JOB, CARGO] for command in with_job] + [["section", CARGO, "12", "8000"]]
         written = [line for words in asked for line in run([PROGRAM, *words]).stdout.splitlines()]
-        shown = re.findall(r"(?m)^    ((?:hydro|section|cross|load|upright|arm|mark|verdict|hull|body|end) [0-9C-p].*)$", text)
+        shown = re.findall(r"(?m)^    ((?:hydro|section|cross|load|upright|arm|mark|verdict|damage|safe|next|hull|body|end) [0-9C-p].*)$", text)
         self.assertGreater(len(shown), 30)
         for line in shown:
             self.assertTrue(any(full.startswith(line.removesuffix(" ..")) for full in written), line)
