@@ -14,7 +14,7 @@ except ImportError:  # before Python 3.11
 
 COLUMNS = ["first field (x)", "second field (half-breadth)", "third field (height)"]
 LIMITS = [524287, 65535, 65535]
-LATER = ["all", "make"]
+LATER = ["make"]
 FORMS = {
     "hydro": ["JOB", "OFFSETS"],
     "bonjean": ["JOB", "OFFSETS"],
@@ -22,6 +22,7 @@ FORMS = {
     "stability": ["JOB", "OFFSETS"],
     "damage": ["JOB", "OFFSETS"],
     "floodable": ["JOB", "OFFSETS"],
+    "all": ["JOB", "OFFSETS"],
     "section": ["OFFSETS", "STATION", "DRAFT"],
 }
 KEYS = {

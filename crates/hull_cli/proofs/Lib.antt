@@ -1,3 +1,4 @@
+pub mod AllLines
 pub mod Complete
 pub mod Counts
 pub mod CrossLines

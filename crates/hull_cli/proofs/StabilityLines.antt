@@ -100,11 +100,11 @@ arm_line_is arms k arm there lever area has_lever has_area f g lever_printed are
   fields = refl;
 }
 
-pub all_joined : (load row last : Line) (levers marks one two three four five : List Line) → one ≡ load ∷ [] → two ≡ one ++ row ∷ [] → three ≡ two ++ levers → four ≡ three ++ marks → five ≡ four ++ last ∷ []
-    → five ≡ load ∷ row ∷ levers ++ (marks ++ last ∷ [])
-all_joined load row last levers marks one two three four five a b c d e =
-    e ∙ (ap (λ (t : List Line). t ++ last ∷ []) (d ∙ ap (λ (t : List Line). t ++ marks) (c ∙ ap (λ (t : List Line). t ++ levers) (b ∙ ap (λ (t : List Line). t ++ row ∷ []) a)))
-    ∙ ap (λ (t : List Line). load ∷ row ∷ t) (append_assoc levers marks (last ∷ [])))
+pub all_joined : (row last : Line) (levers marks one two three four : List Line) → one ≡ row ∷ [] → two ≡ one ++ levers → three ≡ two ++ marks → four ≡ three ++ last ∷ []
+    → four ≡ row ∷ levers ++ (marks ++ last ∷ [])
+all_joined row last levers marks one two three four a b c d =
+    d ∙ (ap (λ (t : List Line). t ++ last ∷ []) (c ∙ ap (λ (t : List Line). t ++ marks) (b ∙ ap (λ (t : List Line). t ++ levers) a))
+    ∙ ap (λ (t : List Line). row ∷ t) (append_assoc levers marks (last ∷ [])))
 
 -- ---- what is judged
 module _ (hull : List Station) (is : IsHull hull) (faces : Faces) (boundary : AreFacesOf hull faces) (job : Job) (loading : Loading) (arms : ArmTable) (upright : UprightRow) (rows : AreRowsOf faces loading job.water arms upright) where

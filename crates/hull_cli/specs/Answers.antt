@@ -50,12 +50,22 @@ DueToItems hull water items (refusal.Load fault) = IsLoadFaultOf items fault
 DueToItems hull water items (refusal.Heavy mass six) = (loading : Loading) × IsLoadingOf items loading × (mass ≡ loading.mass) × IsTooHeavy hull (displaced loading water) × (six ≡ six_of hull)
 DueToItems hull water items _ = ⊥
 
+-- the items make a loading that isn't too heavy for the hull
+abbrev pub CanBeLoaded : List Station → Water → List Item → Type 0
+CanBeLoaded hull water items = (loading : Loading) × IsLoadingOf items loading × ¬ (IsTooHeavy hull (displaced loading water))
+
+-- this refusal is due to the items, or, where the hull can be loaded with them, to the displacements
+abbrev pub DueToLoadOrMasses : List Station → Job → Refusal → Type 0
+DueToLoadOrMasses hull job cause =
+    DueToItems hull job.water job.items cause ⊎ (CanBeLoaded hull job.water job.items × DueToMasses hull job.water job.masses cause)
+
 -- this refusal is due to what the command finds in the job and the hull
 abbrev pub DueToCommand : Command → Job → List Station → Refusal → Type 0
 DueToCommand command.Cross job hull cause = DueToMasses hull job.water job.masses cause
 DueToCommand command.Stability job hull cause = DueToItems hull job.water job.items cause
 DueToCommand command.Damage job hull cause = DueToLoad job.items cause
 DueToCommand command.Floodable job hull cause = DueToLoad job.items cause
+DueToCommand command.All job hull cause = DueToLoadOrMasses hull job cause
 DueToCommand _ job hull cause = ⊥
 
 -- this refusal is due to what a command with these files asks for; the offset file counts only where the job was read,

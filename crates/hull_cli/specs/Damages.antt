@@ -1,5 +1,5 @@
 -- The damage lines of a report, and what stands behind them.
-use Rattle.std.specs.Prelude.{ℕ, ◌≡◌, List, ◌∷◌}
+use Rattle.std.specs.Prelude.{ℕ, ◌≡◌, List}
 use Rattle.outward_interval.specs.Printed.{IsPrinted}
 use Rattle.outward_interval.specs.declared.span.Span.{Span}
 use Rattle.hull_model.specs.declared.station.Station.{Station}
@@ -16,7 +16,6 @@ use Rattle.damage_box.specs.declared.tip.Tip.{Tip}
 use Rattle.damage_box.specs.declared.tip.Tip.TheVariants.{Fore, Aft}
 use Rattle.job_reader.specs.declared.job.Damage.{Damage}
 use Rattle.job_reader.specs.declared.job.Job.{Job}
-use Rattle.loading_sheet.specs.Loads.{IsLoadingOf}
 use Rattle.loading_sheet.specs.declared.loading.Loading.{Loading}
 use Rattle.hull_report.specs.declared.line.CaseEnd.{CaseEnd}
 use Rattle.hull_report.specs.declared.line.CaseEnd.TheVariants as case_end
@@ -24,7 +23,6 @@ use Rattle.hull_report.specs.declared.line.Line.{Line}
 use Rattle.hull_report.specs.declared.line.Line.TheVariants as line
 use Rattle.hull_report.specs.declared.line.Sides.{Sides}
 use Rattle.hull_cli.specs.Lists.{NumberedPairs}
-use Rattle.hull_cli.specs.Stability.{IsLoadLine}
 
 -- the faces are the boundary of a hull
 abbrev pub AreOfSomeHull : Faces → Type 0
@@ -62,12 +60,6 @@ pub record IsCaseLine (hull : List Station) (water : Water) (loading : Loading) 
   pub ends : EndsAs flood loading water hull end
   pub fields : l ≡ line.Damage case end
 
--- the load, and a line for each damage case
-pub record AreDamageLines (hull : List Station) (job : Job) (lines : List Line) : Type 0 where
-  pub loading : Loading
-  pub loaded : IsLoadingOf job.items loading
-  pub load : Line
-  pub load_line : IsLoadLine loading load
-  pub cases : List Line
-  pub case_lines : NumberedPairs (IsCaseLine hull job.water loading) 1 job.damages cases
-  pub whole : lines ≡ load ∷ cases
+-- a line for each damage case
+abbrev pub AreDamageLines : List Station → Job → Loading → List Line → Type 0
+AreDamageLines hull job loading lines = NumberedPairs (IsCaseLine hull job.water loading) 1 job.damages lines

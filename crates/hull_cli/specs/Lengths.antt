@@ -11,7 +11,6 @@ use Rattle.floodable_length.specs.declared.reach.Reason.{Reason}
 use Rattle.floodable_length.specs.declared.reach.Reason.TheVariants as reason
 use Rattle.job_reader.specs.declared.job.FloodPlan.{FloodPlan}
 use Rattle.job_reader.specs.declared.job.Job.{Job}
-use Rattle.loading_sheet.specs.Loads.{IsLoadingOf}
 use Rattle.loading_sheet.specs.declared.loading.Loading.{Loading}
 use Rattle.hull_report.specs.declared.line.Line.{Line}
 use Rattle.hull_report.specs.declared.line.Line.TheVariants as line
@@ -20,7 +19,6 @@ use Rattle.hull_report.specs.declared.line.ReasonLine.TheVariants as reason_line
 use Rattle.hull_report.specs.declared.line.SafeBox.{SafeBox}
 use Rattle.hull_cli.specs.Damages.{sides_of}
 use Rattle.hull_cli.specs.Lists.{Joined}
-use Rattle.hull_cli.specs.Stability.{IsLoadLine}
 
 -- a safe length in mm with the levels of its box, or that no length is safe
 abbrev pub IsSafeBox : Option (ℤ × DraftBox) → Option SafeBox → Type 0
@@ -70,14 +68,8 @@ abbrev pub AreLinesOfPlan : LoadedShip → Option FloodPlan → List Line → Ty
 AreLinesOfPlan ship None lines = lines ≡ []
 AreLinesOfPlan ship (Some plan) lines = Joined (AreLinesOfCentre ship plan) plan.centres lines
 
--- the load, and the lines of the centres
-pub record AreFloodableLines (hull : List Station) (job : Job) (lines : List Line) : Type 0 where
-  pub loading : Loading
-  pub loaded : IsLoadingOf job.items loading
-  pub load : Line
-  pub load_line : IsLoadLine loading load
+-- the lines of the centres under a loading
+pub record AreFloodableLines (hull : List Station) (job : Job) (loading : Loading) (lines : List Line) : Type 0 where
   pub faces : Faces
   pub boundary : AreFacesOf hull faces
-  pub centres : List Line
-  pub centre_lines : AreLinesOfPlan (record { stations = hull; faces = faces; loading = loading; water = job.water; margin = job.margin }) job.floodable centres
-  pub whole : lines ≡ load ∷ centres
+  pub centres : AreLinesOfPlan (record { stations = hull; faces = faces; loading = loading; water = job.water; margin = job.margin }) job.floodable lines

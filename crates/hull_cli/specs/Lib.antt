@@ -4,6 +4,7 @@ pub mod Damages
 pub mod Floats
 pub mod Lengths
 pub mod Lists
+pub mod Loads
 pub mod Report
 pub mod Requests
 pub mod Sections

@@ -1,13 +1,12 @@
 -- The stability lines of a report, and what stands behind them.
 use Rattle.std.specs.Prelude.{ℕ, ◌+◌, ◌≡◌, ◌≤◌, ⊤, List, [], ◌∷◌, ◌++◌, length, slice_get, Some}
-use Rattle.exact_algebra.proofs.Span.{IsLeastSpanOf}
 use Rattle.outward_interval.specs.Printed.{IsPrinted}
 use Rattle.outward_interval.specs.declared.figure.Figure.{Figure}
 use Rattle.outward_interval.specs.declared.span.Span.{Span}
 use Rattle.hull_model.specs.declared.station.Station.{Station}
 use Rattle.hull_polyhedron.specs.declared.faces.Faces.{Faces}
 use Rattle.hull_polyhedron.specs.FacesOf.{AreFacesOf}
-use Rattle.loading_sheet.specs.Centre.{displaced, x_g, z_g}
+use Rattle.loading_sheet.specs.Centre.{displaced}
 use Rattle.loading_sheet.specs.Loads.{IsLoadingOf}
 use Rattle.loading_sheet.specs.declared.loading.Loading.{Loading}
 use Rattle.dynamic_lever.specs.declared.rows.Arm.{Arm}
@@ -66,18 +65,6 @@ pub record IsJudged (hull : List Station) (job : Job) (loading : Loading) (arms 
   pub narrow : ByBrackets (λ brackets. IsAsNarrowAsRead (readings_of brackets arms upright job.openings) findings.verdict)
 
 -- ---- lines
--- the mass, and where the centre lies along the ship and above the base
-pub record IsLoadLine (loading : Loading) (l : Line) : Type 0 where
-  pub lcg : Span 20
-  pub along : IsLeastSpanOf 20 lcg.lo lcg.hi (x_g loading)
-  pub kg : Span 20
-  pub height : IsLeastSpanOf 20 kg.lo kg.hi (z_g loading)
-  pub x : Figure
-  pub printed_x : IsInMetres lcg x
-  pub z : Figure
-  pub printed_z : IsInMetres kg z
-  pub fields : l ≡ line.Load loading.mass x z
-
 pub record IsUprightLine (row : UprightRow) (l : Line) : Type 0 where
   pub kb : Figure
   pub printed_kb : IsInMetres row.kb kb
@@ -143,21 +130,22 @@ NamesCriterion verdict.Pass = ⊤
 NamesCriterion (verdict.Fail n side shown) = (1 ≤ n) × (n ≤ 6)
 NamesCriterion (verdict.Undecided n side shown) = (1 ≤ n) × (n ≤ 6)
 
--- the load, the ship upright, the levers, the six marks and the verdict
-pub record AreStabilityLines (hull : List Station) (job : Job) (lines : List Line) : Type 0 where
-  pub loading : Loading
-  pub arms : ArmTable
+-- what is found in levers: the ship upright, these lines, the six marks and the verdict
+pub record AreFindingLines (hull : List Station) (job : Job) (loading : Loading) (arms : ArmTable) (levers lines : List Line) : Type 0 where
   pub upright : UprightRow
   pub findings : Findings
   pub judged : IsJudged hull job loading arms upright findings
-  pub load : Line
-  pub load_line : IsLoadLine loading load
   pub row : Line
   pub upright_line : IsUprightLine upright row
-  pub levers : List Line
-  pub arm_lines : AreArmLines arms levers
   pub marks : List Line
   pub mark_lines : AreMarkLines findings.marks marks
   pub last : Line
   pub verdict_line : IsVerdictLine findings.verdict last
-  pub whole : lines ≡ load ∷ row ∷ levers ++ (marks ++ last ∷ [])
+  pub whole : lines ≡ row ∷ levers ++ (marks ++ last ∷ [])
+
+-- the ship upright, the levers, the six marks and the verdict
+pub record AreStabilityLines (hull : List Station) (job : Job) (loading : Loading) (lines : List Line) : Type 0 where
+  pub arms : ArmTable
+  pub levers : List Line
+  pub arm_lines : AreArmLines arms levers
+  pub found : AreFindingLines hull job loading arms levers lines

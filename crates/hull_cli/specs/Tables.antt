@@ -1,5 +1,5 @@
 -- The lines of tables over a job's drafts and displacements.
-use Rattle.std.specs.Prelude.{ℕ, ◌≡◌, ⊤, List, [], ◌∷◌, Option, Some, None}
+use Rattle.std.specs.Prelude.{ℕ, ◌≡◌, ⊤, List, [], ◌∷◌, ◌++◌, Option, Some, None}
 use Rattle.outward_interval.specs.Printed.{IsPrinted}
 use Rattle.outward_interval.specs.declared.figure.Figure.{Figure}
 use Rattle.outward_interval.specs.declared.span.Span.{Span}
@@ -9,6 +9,7 @@ use Rattle.hydro_tables.specs.declared.row.HydroRow.{HydroRow}
 use Rattle.hydro_tables.specs.Figures.{integrals_of}
 use Rattle.hydro_tables.specs.Row.{HoldsFigures, IsAbsentExactly}
 use Rattle.job_reader.specs.declared.job.Job.{Job}
+use Rattle.loading_sheet.specs.declared.loading.Loading.{Loading}
 use Rattle.hull_report.specs.declared.line.Command.{Command}
 use Rattle.hull_report.specs.declared.line.Command.TheVariants as command
 use Rattle.hull_report.specs.declared.line.Line.{Line}
@@ -17,6 +18,7 @@ use Rattle.hull_cli.specs.Curves.{AreCrossLines}
 use Rattle.hull_cli.specs.Damages.{AreDamageLines}
 use Rattle.hull_cli.specs.Lengths.{AreFloodableLines}
 use Rattle.hull_cli.specs.Lists.{Joined, Pairwise}
+use Rattle.hull_cli.specs.Loads.{UnderLoad}
 use Rattle.hull_cli.specs.Sections.{AreSectionLines}
 use Rattle.hull_cli.specs.Stability.{AreStabilityLines}
 
@@ -68,12 +70,35 @@ AreHydroLines hull water drafts lines = Pairwise (IsHydroLine hull water) drafts
 abbrev pub AreBonjeanLines : List Station → List ℕ → List Line → Type 0
 AreBonjeanLines hull drafts lines = Joined (AreSectionLines hull) drafts lines
 
+-- the ship upright with its levers and the verdict, then how the damage cases end, then the floodable lengths
+pub record AreShipLines (hull : List Station) (job : Job) (loading : Loading) (lines : List Line) : Type 0 where
+  pub judged : List Line
+  pub stability : AreStabilityLines hull job loading judged
+  pub cases : List Line
+  pub damage : AreDamageLines hull job loading cases
+  pub lengths : List Line
+  pub floodable : AreFloodableLines hull job loading lengths
+  pub whole : lines ≡ judged ++ cases ++ lengths
+
+-- every table that a job asks for, one after the other, the load line once
+pub record AreAllLines (hull : List Station) (job : Job) (lines : List Line) : Type 0 where
+  pub rows : List Line
+  pub hydro : AreHydroLines hull job.water job.drafts rows
+  pub sections : List Line
+  pub bonjean : AreBonjeanLines hull job.drafts sections
+  pub curves : List Line
+  pub cross : AreCrossLines hull job.water job.masses curves
+  pub ship : List Line
+  pub loaded : UnderLoad job.items (AreShipLines hull job) ship
+  pub whole : lines ≡ rows ++ sections ++ curves ++ ship
+
 -- the lines of a command's tables
 abbrev pub AreTableLines : Command → List Station → Job → List Line → Type 0
 AreTableLines command.Hydro hull job lines = AreHydroLines hull job.water job.drafts lines
 AreTableLines command.Bonjean hull job lines = AreBonjeanLines hull job.drafts lines
 AreTableLines command.Cross hull job lines = AreCrossLines hull job.water job.masses lines
-AreTableLines command.Stability hull job lines = AreStabilityLines hull job lines
-AreTableLines command.Damage hull job lines = AreDamageLines hull job lines
-AreTableLines command.Floodable hull job lines = AreFloodableLines hull job lines
+AreTableLines command.Stability hull job lines = UnderLoad job.items (AreStabilityLines hull job) lines
+AreTableLines command.Damage hull job lines = UnderLoad job.items (AreDamageLines hull job) lines
+AreTableLines command.Floodable hull job lines = UnderLoad job.items (AreFloodableLines hull job) lines
+AreTableLines command.All hull job lines = AreAllLines hull job lines
 AreTableLines _ hull job lines = ⊥

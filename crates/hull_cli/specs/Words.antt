@@ -40,7 +40,8 @@ table_command word =
     if bytes_eq word (codes "cross") then Some command.Cross else
     if bytes_eq word (codes "stability") then Some command.Stability else
     if bytes_eq word (codes "damage") then Some command.Damage else
-    if bytes_eq word (codes "floodable") then Some command.Floodable else None
+    if bytes_eq word (codes "floodable") then Some command.Floodable else
+    if bytes_eq word (codes "all") then Some command.All else None
 
 abbrev pub HasTables : Command → Type 0
 HasTables command.Hydro = ⊤
@@ -49,6 +50,7 @@ HasTables command.Cross = ⊤
 HasTables command.Stability = ⊤
 HasTables command.Damage = ⊤
 HasTables command.Floodable = ⊤
+HasTables command.All = ⊤
 HasTables _ = ⊥
 
 -- COMMAND JOB OFFSETS

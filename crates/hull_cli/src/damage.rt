@@ -8,10 +8,10 @@ ghost use Rattle.hull_model.specs.declared.station.Station.{Station};
 ghost use Rattle.hull_cli.specs.Damages as spec;
 ghost use Rattle.hull_cli.specs.Damages.{AreDamageLines, AreOfSomeHull, EndsAs, IsCaseLine};
 ghost use Rattle.hull_cli.specs.Lists.{NumberedPairs};
+ghost use Rattle.hull_cli.specs.Loads.{UnderLoad};
 ghost use Rattle.hull_cli.specs.Stops.{StopsLoad};
 
-use crate::levers::load_line;
-use crate::loading::loading_of;
+use crate::loading::{load_first, loading_of};
 use crate::units::PLACES;
 use compartment_loss::{FloodedHull, flood};
 use damage_box::{DraftBox, SettleFault, Tip, settle};
@@ -30,21 +30,18 @@ const TO_CUBIC_METRES: u32 = 9;
 /// The load, and how each damage case ends. Stops where the items make no loading. The faces are the hull's boundary.
 pub(crate) fn damage_lines(alloc: Global, faces: &Faces, job: &Job) -> Result<Vec<Line>, Stop>
     requires { AreOfSomeHull faces.now }
-    ensures lines { IfOk result (λ lines. OfHulls faces.now (λ hull. AreDamageLines hull job.now lines.items)) }
+    ensures lines { IfOk result (λ lines. OfHulls faces.now (λ hull. UnderLoad job.now.items (AreDamageLines hull job.now) lines.items)) }
     ensures few { IfOk result (λ lines. length lines.items ≤ 33) }
     ensures grammar { IfOk result (λ lines. AreLines lines.items) }
     ensures stops { IfErr result (StopsLoad job.now.items) }
 {
     let loading = loading_of(job.items.as_slice())?;
     let cases = case_lines(alloc, faces, job.damages.as_slice(), &loading, &job.water)?;
-    let mut lines = Vec::new(alloc);
-    lines.push(load_line(&loading))?;
-    lines.extend_from_slice(&cases)?;
-    Ok(lines)
+    Ok(load_first(alloc, &loading, &cases)?)
 }
 
-// A line for each case, numbered from 1.
-fn case_lines(
+/// A line for each case, numbered from 1. The faces are the hull's boundary.
+pub(crate) fn case_lines(
     alloc: Global,
     faces: &Faces,
     damages: &[Damage],

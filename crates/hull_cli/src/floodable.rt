@@ -7,11 +7,11 @@ ghost use Rattle.floodable_length.specs.Reach.{IsReach};
 ghost use Rattle.job_reader.specs.Limits.{is_from};
 ghost use Rattle.hull_cli.specs.Lengths.{AreFloodableLines, AreLinesOfCentre, AreLinesOfPlan, IsNextLine, IsReasonLine, IsSafeLine};
 ghost use Rattle.hull_cli.specs.Lists.{Joined};
+ghost use Rattle.hull_cli.specs.Loads.{UnderLoad};
 ghost use Rattle.hull_cli.specs.Stops.{StopsLoad};
 
 use crate::damage::sides_of;
-use crate::levers::load_line;
-use crate::loading::loading_of;
+use crate::loading::{load_first, loading_of};
 use exact_fraction::Memory;
 use floodable_length::{Reach, Reason, floodable};
 use hull_model::Hull;
@@ -31,21 +31,18 @@ pub(crate) fn floodable_lines(
     job: &Job,
 ) -> Result<Vec<Line>, Stop>
     requires { AreFacesOf hull.now faces.now }
-    ensures lines { IfOk result (λ lines. AreFloodableLines hull.now job.now lines.items) }
+    ensures lines { IfOk result (λ lines. UnderLoad job.now.items (AreFloodableLines hull.now job.now) lines.items) }
     ensures few { IfOk result (λ lines. length lines.items ≤ 65) }
     ensures grammar { IfOk result (λ lines. AreLines lines.items) }
     ensures stops { IfErr result (StopsLoad job.now.items) }
 {
     let loading = loading_of(job.items.as_slice())?;
     let lengths = length_lines(alloc, hull, faces, job, &loading)?;
-    let mut lines = Vec::new(alloc);
-    lines.push(load_line(&loading))?;
-    lines.extend_from_slice(&lengths)?;
-    Ok(lines)
+    Ok(load_first(alloc, &loading, &lengths)?)
 }
 
-// The lines of the centres, if the job has a plan.
-fn length_lines(
+/// The lines of the centres, if the job has a plan. The faces are the hull's boundary.
+pub(crate) fn length_lines(
     alloc: Global,
     hull: &Hull,
     faces: &Faces,

@@ -4,7 +4,8 @@ ghost use Rattle.outward_interval.specs.Ends.{EndsBelow};
 ghost use Rattle.exact_algebra.proofs.Span.{IsLeastSpanOf};
 ghost use Rattle.hull_report.specs.Spelling.{AreLines, IsLine};
 ghost use Rattle.intact_criteria.specs.Tables.{AreSmallArms};
-ghost use Rattle.hull_cli.specs.Stability.{AreArmLines, IsArmLine, IsLoadLine, IsUprightLine};
+ghost use Rattle.hull_cli.specs.Loads.{IsLoadLine};
+ghost use Rattle.hull_cli.specs.Stability.{AreArmLines, IsArmLine, IsUprightLine};
 
 use crate::units::{PLACES, TO_METRES};
 use dynamic_lever::{ArmTable, UprightRow};

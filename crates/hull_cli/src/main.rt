@@ -1,6 +1,7 @@
 //! `hullcert`: tables of a ship's hull, every figure an interval with certified ends.
 #![tactic(auto)]
 
+mod all;
 mod commands;
 mod cross;
 mod damage;

@@ -1,10 +1,13 @@
 // Sections of a hull.
-ghost use Rattle.std.specs.Prelude.{◌≡◌, ◌≤◌, ◌<◌, pos, IfOk, IfErr, length};
+ghost use Rattle.std.specs.Prelude.{◌≡◌, ◌≤◌, ◌<◌, ◌*◌, pos, true, IfOk, IfErr, length};
+ghost use Rattle.std.specs.List.{list_all};
 ghost use Rattle.hull_model.specs.Body.{IsWithin};
+ghost use Rattle.job_reader.specs.Limits.{is_from};
 ghost use Rattle.hull_report.specs.Spelling.{IsLine, AreLines};
 ghost use Rattle.hull_cli.specs.Report.{IsSectionReport};
 ghost use Rattle.hull_cli.specs.Sections.{IsSectionLine, AreSectionLines};
 ghost use Rattle.hull_cli.specs.Stops.{StopsSection};
+ghost use Rattle.hull_cli.specs.Tables.{AreBonjeanLines};
 
 use crate::hull_line::hull_line;
 use bonjean_curves::section;
@@ -40,8 +43,23 @@ pub(crate) fn section_report(
     Ok(Vec::from_slice(alloc, &lines)?)
 }
 
-/// The lines of all stations at a draft.
-pub(crate) fn section_lines(alloc: Global, hull: &Hull, draft: u32) -> Result<Vec<Line>, Memory>
+/// The lines of all stations, draft after draft.
+pub(crate) fn bonjean_lines(alloc: Global, hull: &Hull, drafts: &[u32]) -> Result<Vec<Line>, Memory>
+    requires { list_all (is_from 0 131071) drafts.now ≡ true }
+    ensures lines { IfOk result (λ lines. AreBonjeanLines hull.now drafts.now lines.items) }
+    ensures count { IfOk result (λ lines. length lines.items ≡ length drafts.now * length hull.now) }
+    ensures grammar { IfOk result (λ lines. AreLines lines.items) }
+{
+    let mut lines = Vec::new(alloc);
+    for draft in drafts {
+        let sections = section_lines(alloc, hull, *draft)?;
+        lines.extend_from_slice(&sections)?;
+    }
+    Ok(lines)
+}
+
+// The lines of all stations at a draft.
+fn section_lines(alloc: Global, hull: &Hull, draft: u32) -> Result<Vec<Line>, Memory>
     requires { draft ≤ 131071 }
     ensures lines { IfOk result (λ lines. AreSectionLines hull.now draft lines.items) }
     ensures grammar { IfOk result (λ lines. AreLines lines.items) }

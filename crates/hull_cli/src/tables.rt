@@ -1,22 +1,21 @@
 // Tables of what a job asks for.
-ghost use Rattle.std.specs.Prelude.{◌≡◌, ◌≤◌, ◌+◌, ◌*◌, ◌^◌, true, [], ◌∷◌, ◌++◌, IfOk, IfErr, length};
-ghost use Rattle.std.specs.List.{list_all};
+ghost use Rattle.std.specs.Prelude.{◌≡◌, ◌≤◌, ◌+◌, ◌^◌, [], ◌∷◌, ◌++◌, IfOk, IfErr, length};
 ghost use Rattle.hull_model.specs.Body.{IsHull};
 ghost use Rattle.hull_polyhedron.specs.FacesOf.{AreFacesOf};
-ghost use Rattle.job_reader.specs.Limits.{is_from};
 ghost use Rattle.hull_report.specs.Spelling.{AreLines};
 ghost use Rattle.hull_report.specs.declared.line.Line.TheVariants as line;
 ghost use Rattle.hull_cli.specs.Report.{IsTablesReport};
 ghost use Rattle.hull_cli.specs.Stops.{StopsTables};
-ghost use Rattle.hull_cli.specs.Tables.{AreBonjeanLines, AreTableLines};
+ghost use Rattle.hull_cli.specs.Tables.{AreTableLines};
 ghost use Rattle.hull_cli.specs.Words.{HasTables};
 
+use crate::all::all_lines;
 use crate::cross::cross_lines;
 use crate::damage::damage_lines;
 use crate::floodable::floodable_lines;
 use crate::hull_line::hull_line;
 use crate::hydro::hydro_lines;
-use crate::section::section_lines;
+use crate::section::bonjean_lines;
 use crate::stability::stability_lines;
 use exact_fraction::Memory;
 use hull_model::Hull;
@@ -73,22 +72,9 @@ fn table_lines(
         Command::Stability => stability_lines(alloc, faces, job),
         Command::Damage => damage_lines(alloc, faces, job),
         Command::Floodable => floodable_lines(alloc, hull, faces, job),
+        Command::All => all_lines(alloc, hull, faces, job),
         _ => unreachable!(),
     }
-}
-
-fn bonjean_lines(alloc: Global, hull: &Hull, drafts: &[u32]) -> Result<Vec<Line>, Memory>
-    requires { list_all (is_from 0 131071) drafts.now ≡ true }
-    ensures lines { IfOk result (λ lines. AreBonjeanLines hull.now drafts.now lines.items) }
-    ensures count { IfOk result (λ lines. length lines.items ≡ length drafts.now * length hull.now) }
-    ensures grammar { IfOk result (λ lines. AreLines lines.items) }
-{
-    let mut lines = Vec::new(alloc);
-    for draft in drafts {
-        let sections = section_lines(alloc, hull, *draft)?;
-        lines.extend_from_slice(&sections)?;
-    }
-    Ok(lines)
 }
 
 // Rows between the first lines and the last, which counts all.

@@ -96,6 +96,7 @@ fn table_command(word: &str) -> Option<Command>
         "stability" => Some(Command::Stability),
         "damage" => Some(Command::Damage),
         "floodable" => Some(Command::Floodable),
+        "all" => Some(Command::All),
         _ => None,
     }
 }

@@ -1,4 +1,4 @@
-// Curves, verdicts, damage cases and floodable lengths of the barge: words that stand in their reports, and the exit code.
+// Curves, verdicts, damage cases and floodable lengths of the barge, each alone and all together: words that stand in their reports, and the exit code.
 use super::{BARGE, bytes_of, shelf_of, words_of};
 use crate::run;
 use desk::MemSink;
@@ -32,6 +32,16 @@ const CASES: &str = "\
 0@floodable@/safe 50000 -/next 50000 0 over 0 10190048 10190050 10190048 10190050/safe 20000 -/@density = 1025/item = [{name = 'a', mass = 20400000, x = 50000, z = 9100}]/floodable = {centres = [50000, 20000], step = 100, permeability = 1000}/\n\
 0@floodable@/load 10250000 [50.000000,50.000000] [9.100000,9.100000]/end 5/@density = 1025/item = [{name = 'a', mass = 10250000, x = 50000, z = 9100}]/\n\
 3@floodable@refused load nomass/@density = 1025/\n\
+0@all@hullcert 1 all/hull 3 6/body 120000000000000/hydro 5000 [@density = 1025/drafts = [5000]/displacements = [10250000]/item = [{name = 'a', mass = 10250000, x = 50000, z = 7000}]/damage = [{name = 'd0', flooded = []}]/floodable = {centres = [50000], step = 100, permeability = 1000}/\n\
+0@all@/section 2 100000 5000 [100.000000,100.000000] [250.000000000,250.000000000]/cross 10250000 0 5120000 5120000 [@density = 1025/drafts = [5000]/displacements = [10250000]/item = [{name = 'a', mass = 10250000, x = 50000, z = 7000}]/damage = [{name = 'd0', flooded = []}]/floodable = {centres = [50000], step = 100, permeability = 1000}/\n\
+0@all@/load 10250000 [50.000000,50.000000] [7.000000,7.000000]/upright 5120000 5120000 [2.@density = 1025/drafts = [5000]/displacements = [10250000]/item = [{name = 'a', mass = 10250000, x = 50000, z = 7000}]/damage = [{name = 'd0', flooded = []}]/floodable = {centres = [50000], step = 100, permeability = 1000}/\n\
+0@all@/mark C6 holds/verdict pass/damage 1 5119999 5120001 5119999 5120001/safe 50000 @density = 1025/drafts = [5000]/displacements = [10250000]/item = [{name = 'a', mass = 10250000, x = 50000, z = 7000}]/damage = [{name = 'd0', flooded = []}]/floodable = {centres = [50000], step = 100, permeability = 1000}/\n\
+0@all@/end 202/@density = 1025/drafts = [5000]/displacements = [10250000]/item = [{name = 'a', mass = 10250000, x = 50000, z = 7000}]/damage = [{name = 'd0', flooded = []}]/floodable = {centres = [50000], step = 100, permeability = 1000}/\n\
+1@all@/body 120000000000000/load 10250000 [50.000000,50.000000] [9.100000,9.100000]/upright 5120000 5120000 [2.@density = 1025/item = [{name = 'a', mass = 10250000, x = 50000, z = 9100}]/\n\
+1@all@/verdict fail C6 interval 0 [0.06666@density = 1025/item = [{name = 'a', mass = 10250000, x = 50000, z = 9100}]/\n\
+3@all@refused load nomass/@density = 1025/displacements = [20500001]/\n\
+3@all@refused heavy 20500002 120000000000000/@density = 1025/displacements = [20500001]/item = [{name = 'a', mass = 20500002, x = 0, z = 0}]/\n\
+3@all@refused heavy 20500001 120000000000000/@density = 1025/displacements = [10250000, 20500001, 20500003]/item = [{name = 'a', mass = 10250000, x = 50000, z = 7000}]/\n\
 ";
 
 // Whether a run on this job ends with the code and has written this part.
@@ -39,7 +49,7 @@ fn has(alloc: Global, command: &str, job: &str, code: u8, part: &str) -> Result<
     let job = format!(in alloc; "version = 1/length_bp = 100000/{job}")?;
     let job = bytes_of(alloc, job.as_str())?;
     let mut shelf = shelf_of(alloc, job, bytes_of(alloc, BARGE)?, Vec::new(alloc))?;
-    let mut out = MemSink::new(alloc, 16384, 1024, Vec::new(alloc))?;
+    let mut out = MemSink::new(alloc, 32768, 1024, Vec::new(alloc))?;
     let words = format!(in alloc; "{command}|job.toml|hull.csv")?;
     let words = words_of(alloc, words.as_str())?;
     let status = run(alloc, &words, &mut shelf, &mut out);

@@ -37,7 +37,8 @@ const LISTS: &str = "\
 3@refused usage/@hydr|job.toml|hull.csv\n\
 0@hullcert 1 cross/hull 3 6/body 120000000000000/end 4/@cross|job.toml|hull.csv\n\
 3@refused load nomass/@stability|job.toml|hull.csv\n\
-3@refused usage/@all|job.toml|hull.csv\n\
+3@refused load nomass/@all|job.toml|hull.csv\n\
+3@refused usage/@all|job.toml\n\
 3@refused usage/@section|job.toml|hull.csv\n\
 ";
 

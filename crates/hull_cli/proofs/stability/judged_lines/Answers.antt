@@ -1,47 +1,16 @@
-use Rattle.std.proofs.Common.{[], ◌∷◌, arith}
 use Rattle.intact_criteria.proofs.Rows.{rows_suffice}
-use Rattle.hull_cli.proofs.StabilityLines.{all_joined, judged_is, names_one}
+use Rattle.hull_cli.proofs.Listed.{of_each_ok}
 use Rattle.hull_cli.proofs.stability.judged_lines.Goals as goal
-
-pub judge-findings-requires-clause-arms : goal.judge-findings-requires-clause-arms
-judge-findings-requires-clause-arms c = rows_suffice.small_arms c.args.faces.now c.args.loading.now c.args.job.now.water c.args.standing.now.arms c.args.standing.now.upright c.requires.rows
 
 pub arm_lines-requires : goal.arm_lines-requires
 arm_lines-requires c = rows_suffice.small_arms c.args.faces.now c.args.loading.now c.args.job.now.water c.args.standing.now.arms c.args.standing.now.upright c.requires.rows
 
-pub verdict_line-requires-clause-named : goal.verdict_line-requires-clause-named
-verdict_line-requires-clause-named c =
-    let found = c.judge-findings.ensures.findings.2 in
-    rw found.verdict (names_one (found.c1 ∷ found.c2 ∷ found.c3 ∷ found.c4 ∷ found.c5 ∷ found.c6 ∷ []) (omega arith))
-
 pub returns-clause-lines : goal.returns-clause-lines
-returns-clause-lines c hull is are =
-    let standing = c.args.standing.now in
-    let rules = rw c.as_slice.ensures at c.judge-findings.ensures.findings in
-    let marks = rw c.as_slice.ensures at c.judge-findings.ensures.marks in
-    let verdict = rw c.as_slice.ensures at c.judge-findings.ensures.verdict in
-    let undecided = rw c.as_slice.ensures at c.judge-findings.ensures.undecided in
-    let narrow = rw c.as_slice.ensures at c.judge-findings.ensures.narrow in
-    let count = c.judge-findings.ensures.count in
-    let first = rw c.new-lines.ensures.items at c.in_ok-push.ensures.items in
-    let third = rw c.deref.ensures.value at c.in_ok-extend_from_slice.ensures.items in
-    let fourth = rw c.deref-2.ensures.value at c.in_ok-extend_from_slice-2.ensures.items in
-    record {
-      loading = c.args.loading.now;
-      arms = standing.arms;
-      upright = standing.upright;
-      findings = c.judge-findings.result;
-      judged = judged_is hull is c.args.faces.now are c.args.job.now c.args.loading.now standing.arms standing.upright c.requires.rows c.judge-findings.result count c.requires.loaded rules marks verdict undecided narrow;
-      load = c.load_line.result;
-      load_line = c.load_line.ensures.line;
-      row = c.upright_line.result;
-      upright_line = c.upright_line.ensures.line;
-      levers = c.in_ok-arm_lines.field-0.items;
-      arm_lines = c.in_ok-arm_lines.ensures.lines;
-      marks = c.in_ok-mark_lines.field-0.items;
-      mark_lines = c.in_ok-mark_lines.ensures.lines;
-      last = c.verdict_line.result;
-      verdict_line = c.verdict_line.ensures.line;
-      whole = all_joined c.load_line.result c.upright_line.result c.verdict_line.result c.in_ok-arm_lines.field-0.items c.in_ok-mark_lines.field-0.items _ _ _ _ _
-          first c.in_ok-push-2.ensures.items third fourth c.in_ok-push-3.ensures.items;
-    }
+returns-clause-lines c =
+    let found = rw c.deref.ensures.value at c.finding_lines.ensures.lines in
+    of_each_ok _ _ (λ lines found hull is are. record {
+      arms = c.args.standing.now.arms;
+      levers = c.in_ok-levers.levers.items;
+      arm_lines = c.in_ok-levers.ensures.lines;
+      found = found hull is are;
+    }) c.finding_lines.result found

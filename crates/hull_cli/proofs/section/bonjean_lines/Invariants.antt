@@ -1,7 +1,7 @@
 use Rattle.std.proofs.Common.{◌≡◌, ◌*◌, length, take}
 use Rattle.hull_report.specs.Spelling.{AreLines}
 use Rattle.hull_cli.specs.Tables.{AreBonjeanLines}
-use Rattle.hull_cli.proofs.tables.bonjean_lines.Given as goal
+use Rattle.hull_cli.proofs.section.bonjean_lines.Given as goal
 
 abbrev pub invariant-loop-draft : goal.invariant-loop-draft
 invariant-loop-draft l = record {

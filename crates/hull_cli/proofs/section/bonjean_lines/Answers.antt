@@ -3,7 +3,7 @@ use Rattle.std.proofs.lemmas.List.{take_more}
 use Rattle.hull_report.specs.Spelling.{IsLine}
 use Rattle.hull_cli.specs.Sections.{AreSectionLines}
 use Rattle.hull_cli.proofs.Listed.{all_more, joined_more}
-use Rattle.hull_cli.proofs.tables.bonjean_lines.Goals as goal
+use Rattle.hull_cli.proofs.section.bonjean_lines.Goals as goal
 
 pub loop-draft-preserved : goal.loop-draft-preserved
 loop-draft-preserved c =
