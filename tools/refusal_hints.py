@@ -14,7 +14,6 @@ except ImportError:  # before Python 3.11
 
 COLUMNS = ["first field (x)", "second field (half-breadth)", "third field (height)"]
 LIMITS = [524287, 65535, 65535]
-LATER = ["make"]
 FORMS = {
     "hydro": ["JOB", "OFFSETS"],
     "bonjean": ["JOB", "OFFSETS"],
@@ -24,6 +23,7 @@ FORMS = {
     "floodable": ["JOB", "OFFSETS"],
     "all": ["JOB", "OFFSETS"],
     "section": ["OFFSETS", "STATION", "DRAFT"],
+    "make": ["NUMBER"],
 }
 KEYS = {
     "top": "version density length_bp margin drafts displacements item opening compartment damage floodable",
@@ -206,8 +206,6 @@ def usage_hints(words):
     if not words:
         return []
     command, given = words[0], len(words) - 1
-    if command in LATER:
-        return [("later", {"command": command, "commands": in_words(FORMS)})]
     if command not in FORMS:
         return [("command", {"command": shortened(command), "commands": in_words(FORMS)})]
     wanted = FORMS[command]
@@ -250,6 +248,8 @@ def wrong_words(named):
         yield "station"
     if not re.fullmatch("[0-9]{1,6}", named.get("DRAFT", "0")) or int(named.get("DRAFT", 0)) > 131071:
         yield "draft"
+    if not re.fullmatch("[0-9]{1,10}", named.get("NUMBER", "0")) or int(named.get("NUMBER", 0)) > 4294967295:
+        yield "seed"
 
 
 def looks_like_offsets(content):

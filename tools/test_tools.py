@@ -194,7 +194,7 @@ class Texts(unittest.TestCase):
 
     def test_words_of_no_form(self):
         for words, hint in [
-            (["make", "1"], "later"), (["hydros", "a", "b"], "command"), (["hydro", "a"], "count"),
+            (["make", "4294967296"], "seed"), (["make", "1", "2"], "count"), (["hydros", "a", "b"], "command"), (["hydro", "a"], "count"),
             (["hydro", "a\udce4", "b"], "name_bytes"), (["hydro", "-a", "b"], "dash"), (["section", "a", "1", "8.5"], "draft"), (["section", "a", "x", "8"], "station"),
         ]:
             with self.subTest(words):

@@ -15,7 +15,7 @@ use Rattle.report_run.specs.Shelves.{Shelves}
 use Rattle.report_run.proofs.Accepted.{two_answers, same_value, same_bytes, same_job, job_not_due, offsets_not_due}
 use Rattle.hull_cli.specs.Answers.{CanBeGiven, Decides, Due, DueTo, DueToCommand, DueToStation, DueToTables, Reports, ReportsWith, TablesCanBeGiven, UnreadBy}
 use Rattle.hull_cli.specs.Verdicts.{MayReport, status_of}
-use Rattle.hull_cli.specs.Words.{Form, section, tables, form_of}
+use Rattle.hull_cli.specs.Words.{Form, section, tables, make, form_of}
 
 -- a report is written with the status that its lines have
 pub decided : (shelves : Shelves) (words : List (List ℕ)) (lines : List Line) (text : List ℕ) (status : Status) → Reports shelves words lines → status ≡ status_of lines → MayReport status → text ≡ lines_text lines → Decides shelves words status text
@@ -45,12 +45,14 @@ none_due : (shelves : Shelves) (form : Form) (cause : Refusal) → CanBeGiven sh
 none_due shelves (section offsets station draft) cause can (inl due) = offsets_not_due shelves offsets can.0 cause can.1 due
 none_due shelves (section offsets station draft) cause can (inr due) = station_not_due shelves offsets can.0 station cause can.1 can.2 due
 none_due shelves (tables command name offsets) cause can due = tables_not_due shelves command name offsets cause can due
+none_due shelves (make seed) cause can due = due
 
 none_unread : (shelves : Shelves) (form : Form) (kind : File) → CanBeGiven shelves form → UnreadBy shelves form kind → ⊥
 none_unread shelves (section offsets station draft) file.Job can unread = unread
 none_unread shelves (section offsets station draft) file.Offsets can unread = can.1.file.fetched unread
 none_unread shelves (tables command name offsets) file.Job can unread = can.job.file.fetched unread
 none_unread shelves (tables command name offsets) file.Offsets can unread = can.read.file.fetched unread.2
+none_unread shelves (make seed) kind can unread = unread
 
 -- for these words nothing is due
 nothing_due : (shelves : Shelves) (words : List (List ℕ)) (form : Form) (cause : Refusal) → form_of words ≡ Some form → CanBeGiven shelves form → Due shelves words cause → ⊥

@@ -1,5 +1,5 @@
 -- What a run decides by the words and the files.
-use Rattle.std.specs.Prelude.{ℕ, ◌≡◌, ◌≤◌, ◌<◌, ◌⊎◌, List, Some, None, length}
+use Rattle.std.specs.Prelude.{ℕ, ◌≡◌, ◌≤◌, ◌<◌, ◌⊎◌, ⊤, List, Some, None, length}
 use Rattle.job_reader.specs.declared.job.Item.{Item}
 use Rattle.job_reader.specs.declared.job.Job.{Job}
 use Rattle.loading_sheet.specs.Centre.{displaced}
@@ -25,9 +25,9 @@ use Rattle.report_run.specs.Refusals.{refusal_text, unread_text}
 use Rattle.report_run.specs.Shelves.{Shelves, Unread}
 use Rattle.report_run.specs.Stops.{DueToJob, DueToOffsets}
 use Rattle.hull_cli.specs.Curves.{IsFirstTooHeavy}
-use Rattle.hull_cli.specs.Report.{IsSectionReport, IsTablesReport}
+use Rattle.hull_cli.specs.Report.{IsMadeReport, IsSectionReport, IsTablesReport}
 use Rattle.hull_cli.specs.Verdicts.{status_of}
-use Rattle.hull_cli.specs.Words.{Form, section, tables, form_of}
+use Rattle.hull_cli.specs.Words.{Form, section, tables, make, form_of}
 
 -- this refusal is due to the station's number
 abbrev pub DueToStation : Shelves → List ℕ → ℕ → Refusal → Type 0
@@ -80,6 +80,7 @@ DueToTables shelves command name offsets cause =
 abbrev pub DueTo : Shelves → Form → Refusal → Type 0
 DueTo shelves (section offsets station draft) cause = DueToOffsets shelves offsets cause ⊎ DueToStation shelves offsets station cause
 DueTo shelves (tables command job offsets) cause = DueToTables shelves command job offsets cause
+DueTo shelves (make seed) cause = ⊥
 
 -- this file of those that the words ask for could not be read
 abbrev pub UnreadBy : Shelves → Form → File → Type 0
@@ -87,6 +88,7 @@ UnreadBy shelves (section offsets station draft) file.Job = ⊥
 UnreadBy shelves (section offsets station draft) file.Offsets = Unread shelves offsets
 UnreadBy shelves (tables command job offsets) file.Job = Unread shelves job
 UnreadBy shelves (tables command job offsets) file.Offsets = (j : Job) × JobRead shelves job j × Unread shelves offsets
+UnreadBy shelves (make seed) file = ⊥
 
 -- the files of these names were read, and these lines are a right report of the command on them
 pub record ReportsTables (shelves : Shelves) (command : Command) (name offsets : List ℕ) (lines : List Line) : Type 0 where
@@ -99,6 +101,7 @@ pub record ReportsTables (shelves : Shelves) (command : Command) (name offsets :
 abbrev pub ReportsOn : Shelves → Form → List Line → Type 0
 ReportsOn shelves (section offsets station draft) lines = (bytes : List ℕ) × Read shelves offsets bytes × IsSectionReport (hull_of bytes) station draft lines
 ReportsOn shelves (tables command job offsets) lines = ReportsTables shelves command job offsets lines
+ReportsOn shelves (make seed) lines = IsMadeReport seed lines
 
 -- this refusal is due
 abbrev pub Due : Shelves → List (List ℕ) → Refusal → Type 0
@@ -134,7 +137,8 @@ pub record TablesCanBeGiven (shelves : Shelves) (command : Command) (name offset
   pub accepted : (job : Job) → IsJobOfFile job_bytes job → (cause : Refusal) → ¬ (DueToCommand command job (hull_of bytes) cause)
 
 -- what the words ask for can be given: the files that they name can be read, the hull has the station, and the command
--- refuses nothing
+-- refuses nothing; a made ship always can
 abbrev pub CanBeGiven : Shelves → Form → Type 0
 CanBeGiven shelves (section offsets station draft) = (bytes : List ℕ) × CanBeRead shelves offsets bytes × (station < length (hull_of bytes))
 CanBeGiven shelves (tables command job offsets) = TablesCanBeGiven shelves command job offsets
+CanBeGiven shelves (make seed) = ⊤

@@ -3,12 +3,14 @@ use Rattle.std.specs.Prelude.{ℕ, ◌+◌, ◌≡◌, List, [], ◌∷◌, ◌+
 use Rattle.draft_bracket.specs.DraftBracket.{six_of}
 use Rattle.hull_model.specs.declared.station.Station.{Station}
 use Rattle.job_reader.specs.declared.job.Job.{Job}
+use Rattle.hull_maker.specs.MadeHull.{stations_of}
+use Rattle.hull_maker.specs.MadeJob.{IsMadeJob}
 use Rattle.hull_report.specs.declared.line.Command.{Command}
 use Rattle.hull_report.specs.declared.line.Command.TheVariants as command
 use Rattle.hull_report.specs.declared.line.Line.{Line}
 use Rattle.hull_report.specs.declared.line.Line.TheVariants as line
 use Rattle.hull_cli.specs.Sections.{IsSectionLine}
-use Rattle.hull_cli.specs.Tables.{AreTableLines}
+use Rattle.hull_cli.specs.Tables.{AreMadeLines, AreTableLines}
 
 -- the number of points that a hull keeps
 abbrev pub points_count : List Station → ℕ
@@ -32,3 +34,11 @@ pub record IsTablesReport (command : Command) (hull : List Station) (job : Job) 
   pub rows : List Line
   pub right : AreTableLines command hull job rows
   pub whole : lines ≡ whole_report command hull rows
+
+-- the lines of the report on the made ship of a number
+pub record IsMadeReport (seed : ℕ) (lines : List Line) : Type 0 where
+  pub job : Job
+  pub made : IsMadeJob job
+  pub rows : List Line
+  pub right : AreMadeLines (stations_of seed) job rows
+  pub whole : lines ≡ whole_report command.Make (stations_of seed) rows

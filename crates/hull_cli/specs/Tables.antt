@@ -6,6 +6,7 @@ use Rattle.outward_interval.specs.declared.span.Span.{Span}
 use Rattle.hull_model.specs.declared.station.Station.{Station}
 use Rattle.hull_model.specs.declared.water.Water.{Water}
 use Rattle.hydro_tables.specs.declared.row.HydroRow.{HydroRow}
+use Rattle.dynamic_lever.specs.declared.rows.ArmTable.{ArmTable}
 use Rattle.hydro_tables.specs.Figures.{integrals_of}
 use Rattle.hydro_tables.specs.Row.{HoldsFigures, IsAbsentExactly}
 use Rattle.job_reader.specs.declared.job.Job.{Job}
@@ -20,7 +21,7 @@ use Rattle.hull_cli.specs.Lengths.{AreFloodableLines}
 use Rattle.hull_cli.specs.Lists.{Joined, Pairwise}
 use Rattle.hull_cli.specs.Loads.{UnderLoad}
 use Rattle.hull_cli.specs.Sections.{AreSectionLines}
-use Rattle.hull_cli.specs.Stability.{AreStabilityLines}
+use Rattle.hull_cli.specs.Stability.{AreFindingLines, AreStabilityLines}
 
 -- a span that may be absent, and by which power of ten its unit is smaller than that of its figure
 pub record Column : Type 0 where
@@ -91,6 +92,23 @@ pub record AreAllLines (hull : List Station) (job : Job) (lines : List Line) : T
   pub ship : List Line
   pub loaded : UnderLoad job.items (AreShipLines hull job) ship
   pub whole : lines ≡ rows ++ sections ++ curves ++ ship
+
+-- the ship upright, the marks and the verdict, without the levers behind them, then how the damage cases end
+pub record AreTrialLines (hull : List Station) (job : Job) (loading : Loading) (lines : List Line) : Type 0 where
+  pub arms : ArmTable
+  pub judged : List Line
+  pub found : AreFindingLines hull job loading arms [] judged
+  pub cases : List Line
+  pub damage : AreDamageLines hull job loading cases
+  pub whole : lines ≡ judged ++ cases
+
+-- the hydro lines, and the trial under the load
+pub record AreMadeLines (hull : List Station) (job : Job) (lines : List Line) : Type 0 where
+  pub rows : List Line
+  pub hydro : AreHydroLines hull job.water job.drafts rows
+  pub ship : List Line
+  pub loaded : UnderLoad job.items (AreTrialLines hull job) ship
+  pub whole : lines ≡ rows ++ ship
 
 -- the lines of a command's tables
 abbrev pub AreTableLines : Command → List Station → Job → List Line → Type 0

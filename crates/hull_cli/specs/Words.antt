@@ -1,5 +1,5 @@
 -- The forms of words.
-use Rattle.std.specs.Prelude.{ℕ, ◌≤◌, ⊤, Bool, false, ◌==◌, ◌&&◌, not, nat_le, if◌then◌else◌, List, [], ◌∷◌, length, Option, Some, None, codes}
+use Rattle.std.specs.Prelude.{ℕ, ◌≤◌, ⊤, Bool, false, ◌==◌, ◌&&◌, not, nat_le, if◌then◌else◌, List, [], ◌∷◌, length, Option, Some, None, option_map, codes}
 use Rattle.std.specs.Char.{is_ascii_digit}
 use Rattle.std.specs.List.{list_all}
 use Rattle.std.specs.Str.{bytes_eq}
@@ -13,6 +13,8 @@ pub data Form : Type 0 where
   section : List ℕ → ℕ → ℕ → Form
   -- a command, the job file's name, the offset file's name
   tables : Command → List ℕ → List ℕ → Form
+  -- the number of a made ship
+  make : ℕ → Form
 
 -- a file's name: a word that isn't empty and doesn't begin with a dash
 abbrev pub is_name_word : List ℕ → Bool
@@ -63,9 +65,17 @@ abbrev pub form_of : List (List ℕ) → Option Form
 form_of (command ∷ offsets ∷ station ∷ draft ∷ []) =
     if bytes_eq command (codes "section") then section_form offsets (number_in 6 999999 station) (number_in 6 131071 draft) else None
 form_of (command ∷ job ∷ offsets ∷ []) = tables_form (table_command command) job offsets
+form_of (command ∷ number ∷ []) = if bytes_eq command (codes "make") then option_map make (number_in 10 4294967295 number) else None
 form_of words = None
 
 -- what every form of words keeps: a draft is at most 131071 mm, and a command with a job has tables
 abbrev pub IsServed : Form → Type 0
 IsServed (section offsets station draft) = draft ≤ 131071
 IsServed (tables command job offsets) = HasTables command
+IsServed (make seed) = ⊤
+
+-- words of this form, or of none, ask for no file
+abbrev pub AskForNoFile : Option Form → Type 0
+AskForNoFile None = ⊤
+AskForNoFile (Some (make seed)) = ⊤
+AskForNoFile _ = ⊥

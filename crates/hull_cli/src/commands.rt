@@ -8,8 +8,9 @@ ghost use Rattle.hull_cli.specs.Answers.{CanBeGiven, Decides, Reports, ReportsOn
 ghost use Rattle.hull_cli.specs.Requests.{form_seen};
 ghost use Rattle.hull_cli.specs.Stops.{Stops, StopsOn};
 ghost use Rattle.hull_cli.specs.Words as form;
-ghost use Rattle.hull_cli.specs.Words.{Form, form_of, HasTables, IsServed};
+ghost use Rattle.hull_cli.specs.Words.{AskForNoFile, Form, form_of, HasTables, IsServed};
 
+use crate::made::made_report;
 use crate::section::section_report;
 use crate::tables::tables_report;
 use crate::verdict::report_status;
@@ -28,7 +29,7 @@ use std::alloc::Global;
 pub fn run<S: Shelf, K: Sink>(alloc: Global, words: &[String], shelf: &mut S, out: &mut K) -> Status
     ensures answers { Answers K.faults K.taken (Decides (between S.held S.faults S.taken shelf.old shelf.new) (map string_bytes words.now)) result out.old out.new }
     ensures same { (n : List ℕ) → S.held shelf.new n ≡ S.held shelf.old n }
-    ensures no_fetch { form_of (map string_bytes words.now) ≡ None → shelf.new ≡ shelf.old }
+    ensures no_fetch { AskForNoFile (form_of (map string_bytes words.now)) → shelf.new ≡ shelf.old }
     ensures complete { (form : Form) → form_of (map string_bytes words.now) ≡ Some form
         → CanBeGiven (between S.held S.faults S.taken shelf.old shelf.new) form
         → ¬ (Rose (K.faults out.old) (K.faults out.new))
@@ -59,7 +60,7 @@ struct Answer {
 fn answer_of<S: Shelf>(alloc: Global, words: &[String], shelf: &mut S) -> Result<Answer, Memory>
     ensures decides { IfOk result (λ a. Decides (between S.held S.faults S.taken shelf.old shelf.new) (map string_bytes words.now) a.status a.text.items) }
     ensures same { (n : List ℕ) → S.held shelf.new n ≡ S.held shelf.old n }
-    ensures no_fetch { form_of (map string_bytes words.now) ≡ None → shelf.new ≡ shelf.old }
+    ensures no_fetch { AskForNoFile (form_of (map string_bytes words.now)) → shelf.new ≡ shelf.old }
 {
     match report_of(alloc, words, shelf) {
         Ok(lines) => Ok(Answer {
@@ -83,7 +84,7 @@ fn report_of<S: Shelf>(alloc: Global, words: &[String], shelf: &mut S) -> Result
     ensures grammar { IfOk result (λ lines. AreLines lines.items) }
     ensures stops { IfErr result (Stops (between S.held S.faults S.taken shelf.old shelf.new) (map string_bytes words.now)) }
     ensures same { (n : List ℕ) → S.held shelf.new n ≡ S.held shelf.old n }
-    ensures no_fetch { form_of (map string_bytes words.now) ≡ None → shelf.new ≡ shelf.old }
+    ensures no_fetch { AskForNoFile (form_of (map string_bytes words.now)) → shelf.new ≡ shelf.old }
 {
     match request_of(words) {
         Some(request) => report_on(alloc, request, shelf),
@@ -101,6 +102,7 @@ fn report_on<S: Shelf>(
     ensures grammar { IfOk result (λ lines. AreLines lines.items) }
     ensures stops { IfErr result (StopsOn (between S.held S.faults S.taken shelf.old shelf.new) (form_seen request.entry)) }
     ensures same { (n : List ℕ) → S.held shelf.new n ≡ S.held shelf.old n }
+    ensures no_fetch { AskForNoFile (Some (form_seen request.entry)) → shelf.new ≡ shelf.old }
 {
     match request {
         Request::Section {
@@ -113,6 +115,7 @@ fn report_on<S: Shelf>(
             job,
             offsets,
         } => tables_on(alloc, shelf, command, job, offsets),
+        Request::Make { seed } => Ok(made_report(alloc, seed)?),
     }
 }
 

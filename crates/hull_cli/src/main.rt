@@ -11,6 +11,7 @@ mod hull_line;
 mod hydro;
 mod levers;
 mod loading;
+mod made;
 mod section;
 mod stability;
 mod tables;

@@ -1,5 +1,5 @@
 // The stability of a hull with the items of a job.
-ghost use Rattle.std.specs.Prelude.{◌≡◌, ◌+◌, List, IfOk, IfErr, length};
+ghost use Rattle.std.specs.Prelude.{◌≡◌, ◌↔◌, ◌+◌, List, IsErr, IfOk, IfErr, length};
 ghost use Rattle.draft_bracket.specs.DraftBracket.{IsTooHeavy, OfHulls};
 ghost use Rattle.hull_report.specs.Spelling.{AreLines};
 ghost use Rattle.intact_criteria.specs.Bounds.{IsBoundedVerdict};
@@ -50,7 +50,7 @@ pub(crate) struct Standing {
 /// The levers of a loading, and the ship upright. Stops where the loading is too heavy.
 pub(crate) fn standing_of(faces: &Faces, loading: &Loading, water: &Water) -> Result<Standing, Stop>
     ensures rows { IfOk result (λ standing. AreRowsOf faces.now loading.now water.now standing.arms standing.upright) }
-    ensures light { IfOk result (λ _. OfHulls faces.now (λ hull. ¬ (IsTooHeavy hull (displaced loading.now water.now)))) }
+    ensures too_heavy { OfHulls faces.now (λ hull. IsErr result ↔ IsTooHeavy hull (displaced loading.now water.now)) }
     ensures stops { IfErr result (λ why. OfHulls faces.now (λ hull. (items : List Item) → IsLoadingOf items loading.now → StopsStability hull water.now items why)) }
 {
     let mass = loading.mass;
@@ -81,8 +81,8 @@ pub(crate) fn judged_lines(
     finding_lines(alloc, faces, job, loading, standing, &levers)
 }
 
-// The ship upright, these lines of its levers, and what is found in them.
-fn finding_lines(
+/// The ship upright, these lines of its levers, the marks of the six criteria and the verdict.
+pub(crate) fn finding_lines(
     alloc: Global,
     faces: &Faces,
     job: &Job,

@@ -1,9 +1,11 @@
 // Tables of what a job asks for.
 ghost use Rattle.std.specs.Prelude.{◌≡◌, ◌≤◌, ◌+◌, ◌^◌, [], ◌∷◌, ◌++◌, IfOk, IfErr, length};
+ghost use Rattle.draft_bracket.specs.DraftBracket.{six_of};
 ghost use Rattle.hull_model.specs.Body.{IsHull};
 ghost use Rattle.hull_polyhedron.specs.FacesOf.{AreFacesOf};
 ghost use Rattle.hull_report.specs.Spelling.{AreLines};
 ghost use Rattle.hull_report.specs.declared.line.Line.TheVariants as line;
+ghost use Rattle.hull_cli.specs.Report as report;
 ghost use Rattle.hull_cli.specs.Report.{IsTablesReport};
 ghost use Rattle.hull_cli.specs.Stops.{StopsTables};
 ghost use Rattle.hull_cli.specs.Tables.{AreTableLines};
@@ -38,15 +40,25 @@ pub(crate) fn tables_report(
     ensures stops { IfErr result (StopsTables command job.now hull.now) }
 {
     let faces = faces_of(alloc, hull)?;
-    let first = [
+    let first = first_lines(command, hull, &faces);
+    let rows = table_lines(alloc, command, hull, &faces, job)?;
+    Ok(report_lines(alloc, &first, &rows)?)
+}
+
+/// The first lines of a report: the header, the hull and the body. The faces are the hull's boundary.
+pub(crate) fn first_lines(command: Command, hull: &Hull, faces: &Faces) -> [Line; 3]
+    requires { AreFacesOf hull.now faces.now }
+    ensures lines { result ≡ line.Header command ∷ report.hull_line hull.now ∷ line.Body (six_of hull.now) ∷ [] }
+    ensures kept { IsHull hull.now }
+    ensures grammar { AreLines result }
+{
+    [
         Line::Header { command },
         hull_line(hull),
         Line::Body {
-            six: six_volume(&faces),
+            six: six_volume(faces),
         },
-    ];
-    let rows = table_lines(alloc, command, hull, &faces, job)?;
-    Ok(report_lines(alloc, &first, &rows)?)
+    ]
 }
 
 fn table_lines(
@@ -77,8 +89,12 @@ fn table_lines(
     }
 }
 
-// Rows between the first lines and the last, which counts all.
-fn report_lines(alloc: Global, first: &[Line; 3], rows: &[Line]) -> Result<Vec<Line>, Memory>
+/// Rows between the first lines and the last, which counts all.
+pub(crate) fn report_lines(
+    alloc: Global,
+    first: &[Line; 3],
+    rows: &[Line],
+) -> Result<Vec<Line>, Memory>
     requires few { length rows.now ≤ 2 ^ 31 }
     requires first { AreLines first.now }
     requires rows { AreLines rows.now }

@@ -1,5 +1,6 @@
 mod barge;
 mod cargo;
+mod made;
 mod refusals;
 mod reports;
 mod words;

@@ -20,6 +20,9 @@ const MOST_STATION: u32 = 999_999;
 /// The greatest draft, in mm.
 const MOST_DRAFT: u32 = 131_071;
 
+/// The most digits of the number of a made ship.
+const SEED_DIGITS: usize = 10;
+
 /// What the words ask for: a command with its names and numbers.
 #[derive(Clone, Copy, Debug)]
 pub(crate) enum Request<'a> {
@@ -35,6 +38,10 @@ pub(crate) enum Request<'a> {
         job: &'a str,
         offsets: &'a str,
     },
+    /// `make NUMBER`: a made ship.
+    Make {
+        seed: u32,
+    },
 }
 
 /// The request that the words make, or None where they are in no form.
@@ -49,6 +56,7 @@ pub(crate) fn request_of(words: &[String]) -> Option<Request<'_>>
         [command, job, offsets] => {
             tables_request(command.as_str(), job.as_str(), offsets.as_str())
         }
+        [command, number] if command.as_str() == "make" => make_request(number.as_str()),
         _ => None,
     }
 }
@@ -82,6 +90,14 @@ fn tables_request<'a>(command: &str, job: &'a str, offsets: &'a str) -> Option<R
         job,
         offsets,
     })
+}
+
+fn make_request<'a>(number: &str) -> Option<Request<'a>>
+    ensures form { option_map form_seen result ≡ option_map spec.make (number_in 10 4294967295 number.now) }
+    ensures served { IfSome result (λ request. IsServed (form_seen request)) }
+{
+    let seed = number_of(number, SEED_DIGITS, u32::MAX)?;
+    Some(Request::Make { seed })
 }
 
 // The command of this word, where it is given a job.

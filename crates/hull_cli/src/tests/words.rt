@@ -39,6 +39,14 @@ const LISTS: &str = "\
 3@refused load nomass/@stability|job.toml|hull.csv\n\
 3@refused load nomass/@all|job.toml|hull.csv\n\
 3@refused usage/@all|job.toml\n\
+3@refused usage/@make\n\
+3@refused usage/@make|4294967296\n\
+3@refused usage/@make|00000000001\n\
+3@refused usage/@make|\n\
+3@refused usage/@make|x\n\
+3@refused usage/@make|-1\n\
+3@refused usage/@make|1|2\n\
+3@refused usage/@made|1\n\
 3@refused usage/@section|job.toml|hull.csv\n\
 ";
 

@@ -1,10 +1,17 @@
 use Rattle.std.proofs.lemmas.Result.{err_from_is_err_and}
+use Rattle.draft_bracket.specs.DraftBracket.{IsTooHeavy}
+use Rattle.loading_sheet.specs.Centre.{displaced}
 use Rattle.hull_cli.specs.Answers.{CanBeLoaded}
-use Rattle.std.proofs.Common.{arith}
+use Rattle.std.proofs.Common.{◌≡◌, true, false, arith}
 use Rattle.hull_cli.proofs.AllLines.{four_joined, items_stop, masses_stop}
-use Rattle.hull_cli.proofs.Counts.{few_drafts, few_in_all, few_masses}
+use Rattle.hull_cli.proofs.Counts.{few_drafts, few_in_all, few_masses, masses_within}
 use Rattle.hull_cli.proofs.StabilityLines.{load_stops}
 use Rattle.hull_cli.proofs.all.all_lines.Goals as goal
+
+pub cross_lines-requires : goal.cross_lines-requires
+cross_lines-requires c =
+    let job = c.args.job.now in
+    rw c.as_slice-masses.ensures (masses_within job.margin job.drafts job.masses job.limits)
 
 pub returns-in_err-loading-clause-stops : goal.returns-in_err-loading-clause-stops
 returns-in_err-loading-clause-stops c =
@@ -23,7 +30,9 @@ pub returns-in_err-curves-clause-stops : goal.returns-in_err-curves-clause-stops
 returns-in_err-curves-clause-stops c =
     let job = c.args.job.now in
     let loaded = rw c.as_slice-items.ensures at c.in_ok-loading.ensures.loading in
-    let can : CanBeLoaded c.args.hull.now job.water job.items = (c.in_ok-loading.loading, loaded, c.in_ok-standing.ensures.light c.args.hull.now c.requires.hull c.requires.faces) in
+    let light : ¬ (IsTooHeavy c.args.hull.now (displaced c.in_ok-loading.loading job.water)) =
+    λ heavy. let no : false ≡ true = (c.in_ok-standing.ensures.too_heavy c.args.hull.now c.requires.hull c.requires.faces).1 heavy in cc in
+    let can : CanBeLoaded c.args.hull.now job.water job.items = (c.in_ok-loading.loading, loaded, light) in
     let stops = rw c.as_slice-masses.ensures at c.in_err-curves.ensures.stops c.args.hull.now c.requires.hull c.requires.faces in
     let p = err_from_is_err_and c.from_residual-in_err-curves.result c.from_residual-in_err-curves.ensures.1 in
     rw (p.1, p.2) (masses_stop c.args.hull.now job _ can stops)
