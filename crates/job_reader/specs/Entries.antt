@@ -1,5 +1,5 @@
 -- The entries of a job file's tables: their first fault, and what they say.
-use Rattle.std.specs.Prelude.{◌≡◌, ◌≤◌, length, ℕ, pos, List, [], ◌∷◌, map, Option, Some, None, ⊤}
+use Rattle.std.specs.Prelude.{◌≡◌, ◌≤◌, length, ℕ, ℤ, pos, if◌then◌else◌, List, [], ◌∷◌, map, Option, Some, None, ⊤}
 use Rattle.toml.specs.Data.{Data, Members, no_members, as_table}
 use Rattle.hull_model.specs.declared.opening.Opening.{Opening}
 use Rattle.hull_model.specs.declared.slab.Slab.{Slab}
@@ -13,35 +13,42 @@ use Rattle.job_reader.specs.declared.key.Key.{Key}
 use Rattle.job_reader.specs.declared.key.Key.TheVariants as key
 use Rattle.job_reader.specs.declared.rule.Tables.{Tables}
 use Rattle.job_reader.specs.Faults.{◌or_later◌, unless, first_in}
-use Rattle.job_reader.specs.Keys.{item_keys, opening_keys, compartment_keys, damage_keys, floodable_keys}
+use Rattle.job_reader.specs.Keys.{has_y, item_keys, opening_keys, compartment_keys, damage_keys, floodable_keys}
 use Rattle.job_reader.specs.Limits.{is_even}
 use Rattle.job_reader.specs.Rules as rule
-use Rattle.job_reader.specs.Values.{at, elements_of, elements_at, array_fault, unknown_fault, whole_fault, whole_of, wholes_fault, wholes_of, name_fault, name_of, names_fault, names_of}
+use Rattle.job_reader.specs.Values.{at, elements_of, elements_at, array_fault, unknown_fault, whole_fault, whole_of, signed_fault, signed_of, wholes_fault, wholes_of, name_fault, name_of, names_fault, names_of}
 
 -- a table's name, and what the rest of it says
 pub record SaysNamed {T : Type 0} (k : Key) (Says : Members → T → Type 0) (t : Members) (entry : Named T) : Type 0 where
   pub name : entry.name ≡ name_of k t
   pub value : Says t entry.value
 
--- ---- an item
-unfoldable pub item_fault : ℕ → Members → Option JobFault
-item_fault entry t =
-    unknown_fault item_keys key.Item entry t
+-- ---- an item, by the version of its file: where that has no y the item stands on the centreplane
+abbrev pub item_y_fault : ℕ → ℕ → Members → Option JobFault
+item_y_fault version entry t = if has_y version then signed_fault rule.item_y entry t else None
+
+abbrev pub item_y_of : ℕ → Members → ℤ
+item_y_of version t = if has_y version then signed_of rule.item_y t else pos 0
+
+unfoldable pub item_fault : ℕ → ℕ → Members → Option JobFault
+item_fault version entry t =
+    unknown_fault (item_keys version) key.Item entry t
     or_later name_fault key.ItemName entry t
     or_later whole_fault rule.item_mass entry t
     or_later whole_fault rule.item_x entry t
+    or_later item_y_fault version entry t
     or_later whole_fault rule.item_z entry t
     or_later whole_fault rule.item_free entry t
 
-pub record SaysItem (t : Members) (item : Item) : Type 0 where
+pub record SaysItem (version : ℕ) (t : Members) (item : Item) : Type 0 where
   pub mass : item.mass ≡ whole_of rule.item_mass t
   pub x : item.x ≡ pos (whole_of rule.item_x t)
-  pub y : item.y ≡ pos 0
+  pub y : item.y ≡ item_y_of version t
   pub z : item.z ≡ pos (whole_of rule.item_z t)
   pub free_surface : item.free_surface ≡ whole_of rule.item_free t
 
-abbrev pub SaysItemEntry : Members → Named Item → Type 0
-SaysItemEntry = SaysNamed key.ItemName SaysItem
+abbrev pub SaysItemEntry : ℕ → Members → Named Item → Type 0
+SaysItemEntry version = SaysNamed key.ItemName (SaysItem version)
 
 -- ---- an opening
 unfoldable pub opening_fault : ℕ → Members → Option JobFault

@@ -17,13 +17,16 @@ use Rattle.job_reader.specs.Limits.{is_whole_from}
 use Rattle.job_reader.specs.Rules as rule
 use Rattle.job_reader.specs.Values.{at, unknown_fault, whole_fault, whole_of, wholes_fault, wholes_of, name_of, names_of}
 
--- ---- the version is 1
+-- ---- the version is 1 or 2
 abbrev pub version_by : Option Data → Option JobFault
 version_by None = Some (fault.Missing key.Version 0)
-version_by (Some value) = elim (as_integer value) [ None ↦ Some (fault.Kind key.Version 0) | Some n ↦ unless (is_whole_from 1 1 n) fault.Version ]
+version_by (Some value) = elim (as_integer value) [ None ↦ Some (fault.Kind key.Version 0) | Some n ↦ unless (is_whole_from rule.version.least rule.version.most n) fault.Version ]
 
 abbrev pub version_fault : Members → Option JobFault
 version_fault document = version_by (at key.Version document)
+
+abbrev pub version_of : Members → ℕ
+version_of document = whole_of rule.version document
 
 -- ---- the plan of floodable lengths, where there is one
 abbrev pub floodable_by : Option Data → Option JobFault
@@ -43,7 +46,7 @@ keys_fault document =
     or_later whole_fault rule.margin 0 document
     or_later wholes_fault rule.drafts 0 document
     or_later wholes_fault rule.displacements 0 document
-    or_later tables_fault item_fault rule.items document
+    or_later tables_fault (item_fault (version_of document)) rule.items document
     or_later tables_fault opening_fault rule.openings document
     or_later tables_fault compartment_fault rule.compartments document
     or_later tables_fault damage_fault rule.damages document
@@ -84,13 +87,13 @@ PlanIs (Some value) None = ⊥
 PlanIs (Some value) (Some plan) = SaysPlan (table_in value) plan
 
 pub record IsJobOf (document : Members) (job : Job) : Type 0 where
-  pub version : job.version ≡ 1
+  pub version : job.version ≡ version_of document
   pub density : job.water.density ≡ whole_of rule.density document
   pub length_bp : job.water.length_bp ≡ whole_of rule.length_bp document
   pub margin : job.margin ≡ whole_of rule.margin document
   pub drafts : job.drafts ≡ wholes_of rule.drafts document
   pub masses : job.masses ≡ wholes_of rule.displacements document
-  pub items : SayAll SaysItem (tables_at rule.items document) job.items
+  pub items : SayAll (SaysItem (version_of document)) (tables_at rule.items document) job.items
   pub openings : SayAll SaysOpening (tables_at rule.openings document) job.openings
   pub compartments : SayAll compartment_at (tables_at rule.compartments document) job.compartments
   pub damages : map (map (slab_named job.compartments)) (flooded_at document) ≡ map (λ d. map Some d.slabs) job.damages

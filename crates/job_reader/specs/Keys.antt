@@ -1,14 +1,18 @@
 -- The keys of a job file: the table that each stands in, and the word that it is written with.
-use Rattle.std.specs.Prelude.{ℕ, codes, List, [], ◌∷◌}
+use Rattle.std.specs.Prelude.{ℕ, ◌==◌, Bool, if◌then◌else◌, codes, List, [], ◌∷◌}
 use Rattle.job_reader.specs.declared.key.Key.{Key}
-use Rattle.job_reader.specs.declared.key.Key.TheVariants.{Version, Density, LengthBp, Margin, Drafts, Displacements, Item, ItemName, ItemMass, ItemX, ItemZ, ItemFree, Opening, OpeningName, OpeningY, OpeningZ, Compartment, CompartmentName, CompartmentFrom, CompartmentTo, CompartmentPermeability, Damage, DamageName, DamageFlooded, Floodable, FloodableCentres, FloodableStep, FloodablePermeability, Top}
+use Rattle.job_reader.specs.declared.key.Key.TheVariants.{Version, Density, LengthBp, Margin, Drafts, Displacements, Item, ItemName, ItemMass, ItemX, ItemY, ItemZ, ItemFree, Opening, OpeningName, OpeningY, OpeningZ, Compartment, CompartmentName, CompartmentFrom, CompartmentTo, CompartmentPermeability, Damage, DamageName, DamageFlooded, Floodable, FloodableCentres, FloodableStep, FloodablePermeability, Top}
 
--- the keys of the file as a whole, and of each of its tables
+-- whether items of a file of this version have a y, and so may stand off the centreplane
+abbrev pub has_y : ℕ → Bool
+has_y version = version == 2
+
+-- the keys of the file as a whole, and of each of its tables; those of an item by the version of the file
 abbrev pub top_keys : List Key
 top_keys = Version ∷ Density ∷ LengthBp ∷ Margin ∷ Drafts ∷ Displacements ∷ Item ∷ Opening ∷ Compartment ∷ Damage ∷ Floodable ∷ []
 
-abbrev pub item_keys : List Key
-item_keys = ItemName ∷ ItemMass ∷ ItemX ∷ ItemZ ∷ ItemFree ∷ []
+abbrev pub item_keys : ℕ → List Key
+item_keys version = if has_y version then ItemName ∷ ItemMass ∷ ItemX ∷ ItemY ∷ ItemZ ∷ ItemFree ∷ [] else (ItemName ∷ ItemMass ∷ ItemX ∷ ItemZ ∷ ItemFree ∷ [])
 
 abbrev pub opening_keys : List Key
 opening_keys = OpeningName ∷ OpeningY ∷ OpeningZ ∷ []
@@ -27,6 +31,7 @@ abbrev pub table_of : Key → Key
 table_of ItemName = Item
 table_of ItemMass = Item
 table_of ItemX = Item
+table_of ItemY = Item
 table_of ItemZ = Item
 table_of ItemFree = Item
 table_of OpeningName = Opening
@@ -55,6 +60,7 @@ word_of Item = codes "item"
 word_of ItemName = codes "name"
 word_of ItemMass = codes "mass"
 word_of ItemX = codes "x"
+word_of ItemY = codes "y"
 word_of ItemZ = codes "z"
 word_of ItemFree = codes "free_surface"
 word_of Opening = codes "opening"

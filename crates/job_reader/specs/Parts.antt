@@ -7,20 +7,22 @@ use Rattle.job_reader.specs.declared.reader.Parts.{Parts}
 use Rattle.job_reader.specs.Checks.{twice_fault, cases_fault, overlap_fault}
 use Rattle.job_reader.specs.Entries.{SaysItemEntry, SaysOpeningEntry, SaysCompartmentEntry, SaysDamageEntry, SayAll, tables_at}
 use Rattle.job_reader.specs.Faults.{◌or_later◌}
-use Rattle.job_reader.specs.Job.{PlanIs}
+use Rattle.job_reader.specs.Job.{PlanIs, version_of}
 use Rattle.hull_model.specs.Slabs.{ends_of}
-use Rattle.job_reader.specs.Limits.{is_job}
+use Rattle.job_reader.specs.Limits.{is_job, is_version}
 use Rattle.job_reader.specs.Rules as rule
 use Rattle.job_reader.specs.Values.{at, whole_of, wholes_of}
 
 pub record SaysParts (document : Members) (parts : Parts) : Type 0 where
+  pub version : parts.version ≡ version_of document
+  pub versions : is_version parts.version ≡ true
   pub density : parts.water.density ≡ whole_of rule.density document
   pub length_bp : parts.water.length_bp ≡ whole_of rule.length_bp document
   pub margin : parts.margin ≡ whole_of rule.margin document
   pub drafts : parts.drafts.items ≡ wholes_of rule.drafts document
   pub masses : parts.masses.items ≡ wholes_of rule.displacements document
   pub limits : is_job parts.margin parts.drafts.items parts.masses.items ≡ true
-  pub items : SayAll SaysItemEntry (tables_at rule.items document) parts.items.items
+  pub items : SayAll (SaysItemEntry (version_of document)) (tables_at rule.items document) parts.items.items
   pub item_count : length parts.items.items ≤ 256
   pub openings : SayAll SaysOpeningEntry (tables_at rule.openings document) parts.openings.items
   pub opening_count : length parts.openings.items ≤ 64

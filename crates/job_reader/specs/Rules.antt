@@ -3,6 +3,7 @@ use Rattle.std.specs.Prelude.{ℕ, ◌+◌, Bool, true, false, Some, None}
 use Rattle.job_reader.specs.declared.key.Key.{Key}
 use Rattle.job_reader.specs.declared.key.Key.TheVariants as key
 use Rattle.job_reader.specs.declared.rule.Whole.{Whole}
+use Rattle.job_reader.specs.declared.rule.Signed.{Signed}
 use Rattle.job_reader.specs.declared.rule.Wholes.{Wholes}
 use Rattle.job_reader.specs.declared.rule.Tables.{Tables}
 
@@ -13,6 +14,10 @@ needed k least most = record { key = k; least = least; most = most; default = No
 abbrev pub or_else : Key → ℕ → ℕ → ℕ → Whole
 or_else k least most default = record { key = k; least = least; most = most; default = Some default }
 
+-- a whole number of either sign, at most so far from 0; it stands for 0 where the key isn't there
+abbrev pub either_side : Key → ℕ → Signed
+either_side k most = record { key = k; most = most }
+
 -- an array of at most so many whole numbers
 abbrev pub array_of : Key → Bool → ℕ → ℕ → ℕ → Wholes
 array_of k is_needed count least most = record { key = k; needed = is_needed; count = count; least = least; most = most }
@@ -21,7 +26,10 @@ array_of k is_needed count least most = record { key = k; needed = is_needed; co
 abbrev pub tables_of : Key → Key → ℕ → Tables
 tables_of k name count = record { key = k; name = name; count = count }
 
--- the file as a whole: density in kg per m³, lengths and drafts in mm, displacements in kg
+-- the file as a whole: its version, density in kg per m³, lengths and drafts in mm, displacements in kg
+abbrev pub version : Whole
+version = needed key.Version 1 2
+
 abbrev pub density : Whole
 density = needed key.Density 500 2000
 
@@ -49,12 +57,15 @@ compartments = tables_of key.Compartment key.CompartmentName 64
 abbrev pub damages : Tables
 damages = tables_of key.Damage key.DamageName 32
 
--- an item: kg, mm, mm, kg·m
+-- an item: kg, mm, mm, mm, kg·m
 abbrev pub item_mass : Whole
 item_mass = needed key.ItemMass 0 68719476736
 
 abbrev pub item_x : Whole
 item_x = needed key.ItemX 0 524287
+
+abbrev pub item_y : Signed
+item_y = either_side key.ItemY 65535
 
 abbrev pub item_z : Whole
 item_z = needed key.ItemZ 0 131071

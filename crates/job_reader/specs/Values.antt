@@ -1,5 +1,5 @@
 -- The value of one key in a table, and its first fault.
-use Rattle.std.specs.Prelude.{ℕ, nat_le, ℤ, nat_abs, Bool, true, false, not, ◌&&◌, List, [], ◌∷◌, length, map, Option, Some, None, is_some, option_and_then}
+use Rattle.std.specs.Prelude.{ℕ, nat_le, ℤ, pos, nat_abs, Bool, true, false, not, ◌&&◌, List, [], ◌∷◌, length, map, Option, Some, None, is_some, option_and_then}
 use Rattle.std.specs.List.{list_all, list_any}
 use Rattle.std.specs.Str.{bytes_eq}
 use Rattle.toml.specs.Data.{Data, Items, no_items, item, Members, no_members, member, array, get_member, as_integer, as_str, as_array, as_table}
@@ -9,10 +9,11 @@ use Rattle.job_reader.specs.declared.array.Kind.{Kind}
 use Rattle.job_reader.specs.declared.array.Kind.TheVariants as kind
 use Rattle.job_reader.specs.declared.key.Key.{Key}
 use Rattle.job_reader.specs.declared.rule.Whole.{Whole}
+use Rattle.job_reader.specs.declared.rule.Signed.{Signed}
 use Rattle.job_reader.specs.declared.rule.Wholes.{Wholes}
 use Rattle.job_reader.specs.Faults.{◌or_later◌, unless}
 use Rattle.job_reader.specs.Keys.{word_of}
-use Rattle.job_reader.specs.Limits.{is_whole_from}
+use Rattle.job_reader.specs.Limits.{is_whole_from, is_whole_near}
 use Rattle.job_reader.specs.Names.{is_name}
 
 -- what a table has under a key
@@ -67,6 +68,22 @@ number_by None None = 0
 
 abbrev pub whole_of : Whole → Members → ℕ
 whole_of rule table = number_by rule.default (option_and_then as_integer (at rule.key table))
+
+-- ---- a whole number of either sign
+abbrev pub signed_fault_by : Signed → ℕ → Option Data → Option JobFault
+signed_fault_by rule entry None = None
+signed_fault_by rule entry (Some value) = elim (as_integer value) [ None ↦ Some (fault.Kind rule.key entry) | Some n ↦ unless (is_whole_near rule.most n) (fault.Range rule.key entry) ]
+
+abbrev pub signed_fault : Signed → ℕ → Members → Option JobFault
+signed_fault rule entry table = signed_fault_by rule entry (at rule.key table)
+
+-- its value, where it has no fault
+abbrev pub or_nought : Option ℤ → ℤ
+or_nought None = pos 0
+or_nought (Some n) = n
+
+abbrev pub signed_of : Signed → Members → ℤ
+signed_of rule table = or_nought (option_and_then as_integer (at rule.key table))
 
 -- ---- an array of whole numbers
 abbrev pub is_number_within : ℕ → ℕ → Data → Bool

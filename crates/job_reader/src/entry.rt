@@ -5,7 +5,7 @@ ghost use Rattle.toml.specs.Data.{Members};
 ghost use Rattle.toml.specs.View.{table_view, view};
 ghost use Rattle.job_reader.specs.Entries as spec;
 ghost use Rattle.job_reader.specs.Faults.{first_in};
-ghost use Rattle.job_reader.specs.Limits.{is_from};
+ghost use Rattle.job_reader.specs.Limits.{is_from, is_whole_near};
 ghost use Rattle.job_reader.specs.Rules as rules;
 ghost use Rattle.job_reader.specs.Values as values;
 
@@ -28,15 +28,15 @@ pub(crate) struct Named<T> {
 pub(crate) trait Entry: Drop {
     ghost use Rattle.job_reader.specs.declared.fault.JobFault.{JobFault};
 
-    ghost fault: { ℕ → Members → Option JobFault };
+    ghost fault: { ℕ → ℕ → Members → Option JobFault };
 
-    ghost says: { Members → Self → Type 0 };
+    ghost says: { ℕ → Members → Self → Type 0 };
 
-    /// Reads the table with this number in its array.
-    fn read(alloc: Global, table: &Table, entry: u32) -> Result<Self, JobFault>
-        ensures ok { OnOk result (fault entry (table_view table.now) ≡ None) }
-        ensures says { IfOk result (says (table_view table.now)) }
-        ensures err { IfErr result (λ e. (e ≡ JobFault.Memory) ⊎ (fault entry (table_view table.now) ≡ Some e)) };
+    /// Reads the table with this number in its array, in a file of this version.
+    fn read(alloc: Global, version: u32, table: &Table, entry: u32) -> Result<Self, JobFault>
+        ensures ok { OnOk result (fault version entry (table_view table.now) ≡ None) }
+        ensures says { IfOk result (says version (table_view table.now)) }
+        ensures err { IfErr result (λ e. (e ≡ JobFault.Memory) ⊎ (fault version entry (table_view table.now) ≡ Some e)) };
 }
 
 impl Entry for Named<Item> {
@@ -44,61 +44,96 @@ impl Entry for Named<Item> {
 
     ghost says = { spec.SaysItemEntry };
 
-    fn read(alloc: Global, table: &Table, entry: u32) -> Result<Named<Item>, JobFault> {
-        item_of(table, entry)
+    fn read(
+        alloc: Global,
+        version: u32,
+        table: &Table,
+        entry: u32,
+    ) -> Result<Named<Item>, JobFault> {
+        item_of(version, table, entry)
     }
 }
 
 impl Entry for Named<Opening> {
-    ghost fault = { spec.opening_fault };
+    ghost fault = { λ version. spec.opening_fault };
 
-    ghost says = { spec.SaysOpeningEntry };
+    ghost says = { λ version. spec.SaysOpeningEntry };
 
-    fn read(alloc: Global, table: &Table, entry: u32) -> Result<Named<Opening>, JobFault> {
+    fn read(
+        alloc: Global,
+        version: u32,
+        table: &Table,
+        entry: u32,
+    ) -> Result<Named<Opening>, JobFault> {
         opening_of(table, entry)
     }
 }
 
 impl Entry for Named<Slab> {
-    ghost fault = { spec.compartment_fault };
+    ghost fault = { λ version. spec.compartment_fault };
 
-    ghost says = { spec.SaysCompartmentEntry };
+    ghost says = { λ version. spec.SaysCompartmentEntry };
 
-    fn read(alloc: Global, table: &Table, entry: u32) -> Result<Named<Slab>, JobFault> {
+    fn read(
+        alloc: Global,
+        version: u32,
+        table: &Table,
+        entry: u32,
+    ) -> Result<Named<Slab>, JobFault> {
         compartment_of(table, entry)
     }
 }
 
 impl Entry for Named<Sequence<Name>> {
-    ghost fault = { spec.damage_fault };
+    ghost fault = { λ version. spec.damage_fault };
 
-    ghost says = { spec.SaysDamageEntry };
+    ghost says = { λ version. spec.SaysDamageEntry };
 
-    fn read(alloc: Global, table: &Table, entry: u32) -> Result<Named<Sequence<Name>>, JobFault> {
+    fn read(
+        alloc: Global,
+        version: u32,
+        table: &Table,
+        entry: u32,
+    ) -> Result<Named<Sequence<Name>>, JobFault> {
         damage_of(alloc, table, entry)
     }
 }
 
 #[tactic(auto, unfolding(crate::specs::Entries::item_fault))]
-fn item_of(table: &Table, entry: u32) -> Result<Named<Item>, JobFault>
-    ensures ok { OnOk result (spec.item_fault entry (table_view table.now) ≡ None) }
-    ensures says { IfOk result (spec.SaysItemEntry (table_view table.now)) }
-    ensures err { IfErr result (λ e. spec.item_fault entry (table_view table.now) ≡ Some e) }
+fn item_of(version: u32, table: &Table, entry: u32) -> Result<Named<Item>, JobFault>
+    ensures ok { OnOk result (spec.item_fault version entry (table_view table.now) ≡ None) }
+    ensures says { IfOk result (spec.SaysItemEntry version (table_view table.now)) }
+    ensures err { IfErr result (λ e. spec.item_fault version entry (table_view table.now) ≡ Some e) }
 {
-    check_keys(table, &rule::ITEM_KEYS, Key::Item, entry)?;
+    check_keys(table, rule::item_keys(version), Key::Item, entry)?;
     let name = Key::ItemName.read_name(table, entry)?;
     let mass = rule::ITEM_MASS.read(table, entry)?;
     let x = rule::ITEM_X.read(table, entry)?;
+    let y = item_y_of(version, table, entry)?;
     let z = rule::ITEM_Z.read(table, entry)?;
     let free_surface = rule::ITEM_FREE.read(table, entry)?;
     let value = Item {
         mass,
         x: x as i64,
-        y: 0,
+        y,
         z: z as i64,
         free_surface,
     };
     Ok(Named { name, value })
+}
+
+// The y of an item; where its version has none the item stands on the centreplane.
+fn item_y_of(version: u32, table: &Table, entry: u32) -> Result<i64, JobFault>
+    ensures ok { OnOk result (spec.item_y_fault version entry (table_view table.now) ≡ None) }
+    ensures value { IfOk result (λ y. y ≡ spec.item_y_of version (table_view table.now)) }
+    ensures range { IfOk result (λ y. is_whole_near 65535 y ≡ true) }
+    ensures err { IfErr result (λ e. spec.item_y_fault version entry (table_view table.now) ≡ Some e) }
+{
+    if rule::has_y(version) {
+        rule::ITEM_Y.read(table, entry)
+    } else {
+        Ok(0)
+    }
 }
 
 #[tactic(auto, unfolding(crate::specs::Entries::opening_fault))]
@@ -155,35 +190,36 @@ fn damage_of(alloc: Global, table: &Table, entry: u32) -> Result<Named<Sequence<
 /// The entries of an array of tables; none where the key isn't there.
 pub(crate) fn read_entries<E: Entry>(
     alloc: Global,
+    version: u32,
     document: &Table,
     rule: &Tables,
 ) -> Result<Vec<E>, JobFault>
     requires { rule.now.count < 2 ^ 32 }
-    ensures ok { OnOk result (spec.tables_fault E.fault rule.now (table_view document.now) ≡ None) }
-    ensures says { IfOk result (λ v. spec.SayAll E.says (spec.tables_at rule.now (table_view document.now)) v.items) }
+    ensures ok { OnOk result (spec.tables_fault (E.fault version) rule.now (table_view document.now) ≡ None) }
+    ensures says { IfOk result (λ v. spec.SayAll (E.says version) (spec.tables_at rule.now (table_view document.now)) v.items) }
     ensures few { IfOk result (λ v. length v.items ≤ rule.now.count) }
-    ensures err { IfErr result (λ e. (e ≡ JobFault.Memory) ⊎ (spec.tables_fault E.fault rule.now (table_view document.now) ≡ Some e)) }
+    ensures err { IfErr result (λ e. (e ≡ JobFault.Memory) ⊎ (spec.tables_fault (E.fault version) rule.now (table_view document.now) ≡ Some e)) }
 {
     let Some(value) = value_at(document, rule.key) else {
         return Ok(Vec::new(alloc));
     };
     let tables = Kind::Table.elements(rule.key, 0, rule.count, value)?;
-    entries_in(alloc, tables)
+    entries_in(alloc, version, tables)
 }
 
-fn entries_in<E: Entry>(alloc: Global, tables: &[Value]) -> Result<Vec<E>, JobFault>
+fn entries_in<E: Entry>(alloc: Global, version: u32, tables: &[Value]) -> Result<Vec<E>, JobFault>
     requires tables { list_all (λ v. values.is_of Kind.Table (view v)) tables.now ≡ true }
     requires few { length tables.now < 2 ^ 32 }
-    ensures ok { OnOk result (first_in (λ n before t. E.fault n t) (map (λ v. spec.table_in (view v)) tables.now) ≡ None) }
-    ensures says { IfOk result (λ v. spec.SayAll E.says (map (λ v. spec.table_in (view v)) tables.now) v.items) }
+    ensures ok { OnOk result (first_in (λ n before t. E.fault version n t) (map (λ v. spec.table_in (view v)) tables.now) ≡ None) }
+    ensures says { IfOk result (λ v. spec.SayAll (E.says version) (map (λ v. spec.table_in (view v)) tables.now) v.items) }
     ensures few { IfOk result (λ v. length v.items ≡ length tables.now) }
-    ensures err { IfErr result (λ e. (e ≡ JobFault.Memory) ⊎ (first_in (λ n before t. E.fault n t) (map (λ v. spec.table_in (view v)) tables.now) ≡ Some e)) }
+    ensures err { IfErr result (λ e. (e ≡ JobFault.Memory) ⊎ (first_in (λ n before t. E.fault version n t) (map (λ v. spec.table_in (view v)) tables.now) ≡ Some e)) }
 {
     let mut entries = Vec::new(alloc);
     let mut number: u32 = 0;
     for table in tables {
         number += 1;
-        entries.push(E::read(alloc, table_in(table), number)?)?;
+        entries.push(E::read(alloc, version, table_in(table), number)?)?;
     }
     Ok(entries)
 }

@@ -12,7 +12,7 @@ use std::alloc::{AllocError, AllocFailed};
 pub enum JobFault {
     /// The bytes aren't a TOML document.
     Text,
-    /// The version isn't 1.
+    /// The version is neither 1 nor 2.
     Version,
     /// The table has a key that isn't in the format; `key` is that of the table, or `Top`.
     Unknown { key: Key, entry: u32 },

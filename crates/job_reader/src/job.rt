@@ -112,9 +112,9 @@ impl Compartments {
 
 /// What is asked of a hull: its water, its loading, its openings, its compartments and their flooding.
 ///
-/// `version` is that of the job's file, 1 or 2. `margin` is in mm, from 76 to 10000. At most 64 drafts in mm, from 0 to 131071; at most 16 masses in kg
-/// whose cross curves are asked for, from 1 to 2^36; at most 256 items, 64 openings, 64 compartments and 32
-/// damage cases.
+/// `version` is that of the job's file, 1 or 2. `margin` is in mm, from 76 to 10000. At most 64 drafts in mm, from 0 to
+/// 131071; at most 16 masses in kg whose cross curves are asked for, from 1 to 2^36; at most 256 items, 64 openings, 64
+/// compartments and 32 damage cases.
 #[derive(Drop)]
 pub struct Job {
     pub version: u32,

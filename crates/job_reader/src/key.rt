@@ -17,6 +17,7 @@ pub enum Key {
     ItemName,
     ItemMass,
     ItemX,
+    ItemY,
     ItemZ,
     ItemFree,
     Opening,
@@ -46,7 +47,8 @@ impl Key {
         ensures { result ≡ table_of self.now }
     {
         match self {
-            Key::ItemName | Key::ItemMass | Key::ItemX | Key::ItemZ | Key::ItemFree => Key::Item,
+            Key::ItemName | Key::ItemMass | Key::ItemX | Key::ItemY | Key::ItemZ | Key::ItemFree =>
+                Key::Item,
             Key::OpeningName | Key::OpeningY | Key::OpeningZ => Key::Opening,
             Key::CompartmentName
             | Key::CompartmentFrom
@@ -79,7 +81,7 @@ impl Key {
             Key::ItemName | Key::OpeningName | Key::CompartmentName | Key::DamageName => "name",
             Key::ItemMass => "mass",
             Key::ItemX => "x",
-            Key::OpeningY => "y",
+            Key::ItemY | Key::OpeningY => "y",
             Key::ItemZ | Key::OpeningZ => "z",
             Key::ItemFree => "free_surface",
             Key::CompartmentFrom => "from",

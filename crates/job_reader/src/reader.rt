@@ -4,6 +4,7 @@ ghost use Rattle.toml.specs.View.{table_view};
 ghost use Rattle.job_reader.specs.Job as spec;
 ghost use Rattle.hull_model.specs.Slabs.{ends_of};
 ghost use Rattle.job_reader.specs.Parts.{SaysParts, parts_fault};
+ghost use Rattle.job_reader.specs.Limits.{is_version};
 ghost use Rattle.job_reader.specs.Values as values;
 
 use crate::array::drafts_of;
@@ -16,13 +17,11 @@ use hull_model::{Opening, Slab, Water};
 use std::alloc::Global;
 use toml::Table;
 
-/// The one version of job files that is read.
-const VERSION: u32 = 1;
-
 /// The job of a job file, or the first fault that the file has.
 ///
-/// `bytes` is a TOML document of version 1, whose items stand on the centreplane; all its numbers are integers. README has the table of keys with their units
-/// and ranges; faults are looked for in the order of that table. Takes memory for the document and the job.
+/// `bytes` is a TOML document of version 1, whose items stand on the centreplane, or 2; all its numbers are integers.
+/// README has the table of keys with their units and ranges; faults are looked for in the order of that table. Takes
+/// memory for the document and the job.
 pub fn read_job(alloc: Global, bytes: &[u8]) -> Result<Job, JobFault>
     requires { length bytes.now < 2 ^ 32 }
     ensures job { IfOk result (spec.IsJobOfFile bytes.now) }
@@ -43,8 +42,10 @@ fn document_of(alloc: Global, bytes: &[u8]) -> Result<Table, JobFault>
     }
 }
 
-fn check_version(document: &Table) -> Result<(), JobFault>
+fn read_version(document: &Table) -> Result<u32, JobFault>
     ensures ok { OnOk result (spec.version_fault (table_view document.now) ≡ None) }
+    ensures value { IfOk result (λ version. version ≡ spec.version_of (table_view document.now)) }
+    ensures range { IfOk result (λ version. is_version version ≡ true) }
     ensures err { IfErr result (λ e. spec.version_fault (table_view document.now) ≡ Some e) }
 {
     let key = Key::Version;
@@ -55,10 +56,10 @@ fn check_version(document: &Table) -> Result<(), JobFault>
     let Some(version) = value.as_integer() else {
         return Err(JobFault::Kind { key, entry });
     };
-    if number_within(version, 1, 1).is_none() {
-        return Err(JobFault::Version);
+    match number_within(version, rule::VERSION.least, rule::VERSION.most) {
+        Some(version) => Ok(version as u32),
+        None => Err(JobFault::Version),
     }
-    Ok(())
 }
 
 fn read_plan(alloc: Global, document: &Table) -> Result<Option<FloodPlan>, JobFault>
@@ -79,6 +80,7 @@ fn read_plan(alloc: Global, document: &Table) -> Result<Option<FloodPlan>, JobFa
 // What the keys of a document say, each by itself.
 #[derive(Drop)]
 pub(crate) struct Parts {
+    version: u32,
     water: Water,
     margin: u32,
     drafts: Vec<u32>,
@@ -97,18 +99,19 @@ fn parts_of(alloc: Global, document: &Table) -> Result<Parts, JobFault>
     ensures err { IfErr result (λ e. (e ≡ JobFault.Memory) ⊎ (spec.keys_fault (table_view document.now) ≡ Some e)) }
 {
     check_keys(document, &rule::TOP_KEYS, Key::Top, 0)?;
-    check_version(document)?;
+    let version = read_version(document)?;
     let density = rule::DENSITY.read(document, 0)?;
     let length_bp = rule::LENGTH_BP.read(document, 0)?;
     let margin = rule::MARGIN.read(document, 0)?;
     let drafts = rule::DRAFTS.read(alloc, document, 0)?;
     let masses = rule::DISPLACEMENTS.read(alloc, document, 0)?;
-    let items = read_entries(alloc, document, &rule::ITEMS)?;
-    let openings = read_entries(alloc, document, &rule::OPENINGS)?;
-    let compartments = read_entries(alloc, document, &rule::COMPARTMENTS)?;
-    let damages = read_entries(alloc, document, &rule::DAMAGES)?;
+    let items = read_entries(alloc, version, document, &rule::ITEMS)?;
+    let openings = read_entries(alloc, version, document, &rule::OPENINGS)?;
+    let compartments = read_entries(alloc, version, document, &rule::COMPARTMENTS)?;
+    let damages = read_entries(alloc, version, document, &rule::DAMAGES)?;
     let floodable = read_plan(alloc, document)?;
     Ok(Parts {
+        version,
         water: Water {
             density: density as u32,
             length_bp: length_bp as u32,
@@ -159,7 +162,7 @@ fn job_of(alloc: Global, document: &Table) -> Result<Job, JobFault>
     let items = values_of(alloc, &parts.items)?;
     let openings = values_of(alloc, &parts.openings)?;
     Ok(Job {
-        version: VERSION,
+        version: parts.version,
         water: parts.water,
         margin: parts.margin,
         drafts: Sequence::new(parts.drafts),

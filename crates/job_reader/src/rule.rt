@@ -1,6 +1,7 @@
 // How each key of a job file is read: one rule for each, the table that the reader is driven by.
 
 ghost use Rattle.std.specs.Prelude.{◌≡◌, ◌≤◌};
+ghost use Rattle.job_reader.specs.Keys as keys;
 ghost use Rattle.job_reader.specs.Rules as rules;
 
 use crate::Key;
@@ -11,7 +12,7 @@ const MOST_MASS: u64 = 68719476736;
 /// The greatest x, in mm.
 const MOST_X: u64 = 524287;
 
-/// The greatest distance of an opening from the centreplane, in mm.
+/// The greatest distance of an item and an opening from the centreplane, in mm.
 const MOST_BREADTH: u64 = 65535;
 
 /// The greatest height of an item and an opening, and the greatest draft, in mm.
@@ -27,6 +28,13 @@ pub(crate) struct Whole {
     pub(crate) least: u64,
     pub(crate) most: u64,
     pub(crate) default: Option<u64>,
+}
+
+/// A key that has a whole number of either sign, at most `most` in magnitude. Where it isn't there it stands for 0.
+#[derive(Clone, Copy, Debug)]
+pub(crate) struct Signed {
+    pub(crate) key: Key,
+    pub(crate) most: u64,
 }
 
 /// A key that has an array of at most `count` whole numbers, each from `least` to `most`.
@@ -46,6 +54,13 @@ pub(crate) struct Tables {
     pub(crate) name: Key,
     pub(crate) count: usize,
 }
+
+pub(crate) const VERSION: Whole = Whole {
+    key: Key::Version,
+    least: 1,
+    most: 2,
+    default: None,
+};
 
 pub(crate) const DENSITY: Whole = Whole {
     key: Key::Density,
@@ -80,6 +95,11 @@ pub(crate) const ITEM_X: Whole = Whole {
     least: 0,
     most: MOST_X,
     default: None,
+};
+
+pub(crate) const ITEM_Y: Signed = Signed {
+    key: Key::ItemY,
+    most: MOST_BREADTH,
 };
 
 pub(crate) const ITEM_Z: Whole = Whole {
@@ -202,13 +222,42 @@ pub(crate) const DAMAGES: Tables = Tables {
 /// The most compartments that a damage case floods.
 pub(crate) const MOST_FLOODED: usize = 64;
 
-pub(crate) const ITEM_KEYS: [Key; 5] = [
+/// The keys of an item in a file of version 1.
+const CENTRED_ITEM_KEYS: [Key; 5] = [
     Key::ItemName,
     Key::ItemMass,
     Key::ItemX,
     Key::ItemZ,
     Key::ItemFree,
 ];
+
+/// The keys of an item in a file of version 2.
+const ITEM_KEYS: [Key; 6] = [
+    Key::ItemName,
+    Key::ItemMass,
+    Key::ItemX,
+    Key::ItemY,
+    Key::ItemZ,
+    Key::ItemFree,
+];
+
+/// Whether items of a file of this version have a y.
+pub(crate) fn has_y(version: u32) -> bool
+    ensures { result ≡ keys.has_y version }
+{
+    version == 2
+}
+
+/// The keys of an item in a file of this version.
+pub(crate) fn item_keys(version: u32) -> &'static [Key]
+    ensures { result.now ≡ keys.item_keys version }
+{
+    if has_y(version) {
+        &ITEM_KEYS
+    } else {
+        &CENTRED_ITEM_KEYS
+    }
+}
 
 pub(crate) const OPENING_KEYS: [Key; 3] = [Key::OpeningName, Key::OpeningY, Key::OpeningZ];
 

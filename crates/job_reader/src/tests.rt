@@ -6,7 +6,9 @@ use jobs::JOBS;
 use std::alloc::Global;
 use std::test::Fail;
 
-const BASE: &str = "version = 1;density = 1025;length_bp = 100000;";
+const HEAD: &str = "version = 1;density = 1025;length_bp = 100000;";
+
+const HEAD_2: &str = "version = 2;density = 1025;length_bp = 100000;";
 
 const CARGO: &str = "version = 1\ndensity = 1025\nlength_bp = 100000\n\
 drafts = [2000, 4000, 6000, 8000]\ndisplacements = [6000000, 8380000]\n\
@@ -31,16 +33,22 @@ compartment = [\n\
 damage = [{name = 'bow', flooded = ['forehold']}, {name = 'both', flooded = ['engineroom', 'midhold']}]\n\
 floodable = {centres = [30000, 60000], step = 1000, permeability = 800}\n";
 
+// The lines that a job begins with, and the rest of it, as the table of jobs has them.
+fn parted(job: &str) -> (&str, &str) {
+    if let Some(rest) = job.strip_prefix('!') {
+        return ("", rest);
+    }
+    match job.strip_prefix("2:") {
+        Some(rest) => (HEAD_2, rest),
+        None => (HEAD, job),
+    }
+}
+
 // The bytes of a job as the table of jobs has it.
 fn bytes_of(alloc: Global, job: &str) -> Result<Vec<u8>, Fail> {
+    let (head, rest) = parted(job);
     let mut bytes = Vec::new(alloc);
-    let rest = match job.strip_prefix('!') {
-        Some(rest) => rest,
-        None => {
-            bytes.extend_from_slice(BASE.as_bytes())?;
-            job
-        }
-    };
+    bytes.extend_from_slice(head.as_bytes())?;
     bytes.extend_from_slice(rest.as_bytes())?;
     for byte in &mut bytes {
         if *byte == b';' {
@@ -95,7 +103,7 @@ fn each_job_has_its_first_fault(rt: HostRuntime) -> Result<(), Fail> {
         assert_eq!(rt; words.as_str(), want, "{job}");
         count = count.saturating_add(1);
     }
-    assert_eq!(rt; count, 215);
+    assert_eq!(rt; count, 258);
     Ok(())
 }
 
@@ -103,8 +111,13 @@ fn each_job_has_its_first_fault(rt: HostRuntime) -> Result<(), Fail> {
 fn the_cargo_ship_is_read_whole(rt: HostRuntime) -> Result<(), Fail> {
     let job = read_job(rt.alloc(), CARGO.as_bytes()).map_err(|_| "refused")?;
     assert_eq!(rt;
-        (job.water.density, job.water.length_bp, job.margin),
-        (1025, 100000, 76)
+        (
+            job.version,
+            job.water.density,
+            job.water.length_bp,
+            job.margin
+        ),
+        (1, 1025, 100000, 76)
     );
     assert_eq!(rt; job.drafts.as_slice(), [2000, 4000, 6000, 8000].as_slice());
     assert_eq!(rt; job.masses.as_slice(), [6000000, 8380000].as_slice());
@@ -117,6 +130,7 @@ fn the_cargo_ship_is_read_whole(rt: HostRuntime) -> Result<(), Fail> {
         free_surface = free_surface.saturating_add(item.free_surface);
         along = along.saturating_add(item.x.saturating_mul(item.mass as i64));
         height = height.saturating_add(item.z.saturating_mul(item.mass as i64));
+        assert_eq!(rt; item.y, 0);
     }
     assert_eq!(rt; (mass, free_surface), (8380000, 220000));
     assert_eq!(rt; (along, height), (415160000000, 49710000000));
@@ -147,6 +161,21 @@ fn the_cargo_ship_is_read_whole(rt: HostRuntime) -> Result<(), Fail> {
     let plan = job.floodable.ok_or("no plan")?;
     assert_eq!(rt; plan.centres.as_slice(), [30000, 60000].as_slice());
     assert_eq!(rt; (plan.step, plan.permeability), (1000, 800));
+    Ok(())
+}
+
+#[test]
+fn items_of_version_2_stand_off_the_centreplane(rt: HostRuntime) -> Result<(), Fail> {
+    let text = "version = 2\ndensity = 1025\nlength_bp = 100000\nitem = [\
+{name = 'port', mass = 1, x = 2, y = -65535, z = 3},\
+{name = 'middle', mass = 4, x = 5, z = 6, free_surface = 7},\
+{y = 65535, z = 8, x = 9, mass = 10, name = 'star'}]\n";
+    let job = read_job(rt.alloc(), text.as_bytes()).map_err(|_| "refused")?;
+    assert_eq!(rt; (job.version, job.items.as_slice().len()), (2, 3));
+    if let [port, middle, star] = job.items.as_slice() {
+        assert_eq!(rt; (port.y, middle.y, star.y), (-65535, 0, 65535));
+        assert_eq!(rt; (port.z, middle.free_surface, star.x), (3, 7, 9));
+    }
     Ok(())
 }
 

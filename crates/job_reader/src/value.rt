@@ -2,10 +2,10 @@
 ghost use Rattle.std.specs.Prelude.{◌≡◌, true, OnOk, if◌then◌else◌, nat_abs, IfOk, IfErr, IfSome, option_map};
 ghost use Rattle.std.specs.Str.{bytes_eq};
 ghost use Rattle.toml.specs.View.{table_view, view};
-ghost use Rattle.job_reader.specs.Limits.{is_from, is_whole_from};
+ghost use Rattle.job_reader.specs.Limits.{is_from, is_whole_from, is_whole_near};
 ghost use Rattle.job_reader.specs.Values as spec;
 
-use crate::rule::Whole;
+use crate::rule::{Signed, Whole};
 use crate::{JobFault, Key, Name};
 use toml::{Table, Value};
 
@@ -66,6 +66,35 @@ impl Whole {
             },
         }
     }
+}
+
+impl Signed {
+    /// The number that a table has under the key.
+    pub(crate) fn read(&self, table: &Table, entry: u32) -> Result<i64, JobFault>
+        ensures ok { OnOk result (spec.signed_fault self.now entry (table_view table.now) ≡ None) }
+        ensures value { IfOk result (λ n. n ≡ spec.signed_of self.now (table_view table.now)) }
+        ensures range { IfOk result (λ n. is_whole_near self.now.most n ≡ true) }
+        ensures err { IfErr result (λ e. spec.signed_fault self.now entry (table_view table.now) ≡ Some e) }
+    {
+        let key = self.key;
+        let Some(value) = value_at(table, key) else {
+            return Ok(0);
+        };
+        let Some(number) = value.as_integer() else {
+            return Err(JobFault::Kind { key, entry });
+        };
+        if is_near(number, self.most) {
+            Ok(number)
+        } else {
+            Err(JobFault::Range { key, entry })
+        }
+    }
+}
+
+fn is_near(number: i64, most: u64) -> bool
+    ensures { result ≡ is_whole_near most number }
+{
+    number.unsigned_abs() <= most
 }
 
 /// The number, where it is in the range.

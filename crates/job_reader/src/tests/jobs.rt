@@ -1,5 +1,5 @@
 // Jobs, and what reading answers. A job's lines are parted by `;` here and begin with the version, the density
-// and the length; behind a `!` they don't.
+// and the length; behind a `2:` the version is 2, and behind a `!` they begin with none of these.
 pub(crate) const JOBS: &str = "\
 accepted|\n\
 accepted|[[item]];name = 'a';mass = 1;x = 2;z = 3;[[opening]];name = 'a';y = 1;z = 2;[[compartment]];name = 'a';from = 0;to = 10;permeability = 1;[[compartment]];name = 'b';from = 10;to = 20;permeability = 1000;[[damage]];name = 'a';flooded = ['a'];[floodable];centres = [1];step = 2;permeability = 3;\n\
@@ -30,7 +30,7 @@ unknown top 0|'' = 1;\n\
 missing version 0|!density = 1025;length_bp = 100000;\n\
 kind version 0|!version = '1';density = 1025;length_bp = 100000;\n\
 kind version 0|!version = 1.0;density = 1025;length_bp = 100000;\n\
-version|!version = 2;density = 1025;length_bp = 100000;\n\
+version|!version = 3;density = 1025;length_bp = 100000;\n\
 version|!version = 0;density = 1025;length_bp = 100000;\n\
 version|!version = -1;density = 1025;length_bp = 100000;\n\
 missing density 0|!version = 1;length_bp = 100000;\n\
@@ -215,4 +215,47 @@ overlap 1 2|[[compartment]];name = 'p';from = 0;to = 30;permeability = 0;[[compa
 overlap 1 2|[[compartment]];name = 'p';from = 0;to = 10;permeability = 0;[[compartment]];name = 'q';from = 0;to = 10;permeability = 0;[[compartment]];name = 'r';from = 0;to = 10;permeability = 0;\n\
 notnamed 1|[[compartment]];name = 'p';from = 0;to = 10;permeability = 0;[[compartment]];name = 'q';from = 5;to = 20;permeability = 0;[[damage]];name = 'a';flooded = ['z'];\n\
 twice compartment.name 2|[[compartment]];name = 'p';from = 0;to = 10;permeability = 0;[[compartment]];name = 'p';from = 5;to = 20;permeability = 0;\n\
-overlap 4 5|[[compartment]];name = 'p';from = 10;to = 20;permeability = 0;[[compartment]];name = 'q';from = 0;to = 5;permeability = 0;[[compartment]];name = 'r';from = 5;to = 10;permeability = 0;[[compartment]];name = 's';from = 20;to = 30;permeability = 0;[[compartment]];name = 't';from = 29;to = 40;permeability = 0;\n";
+overlap 4 5|[[compartment]];name = 'p';from = 10;to = 20;permeability = 0;[[compartment]];name = 'q';from = 0;to = 5;permeability = 0;[[compartment]];name = 'r';from = 5;to = 10;permeability = 0;[[compartment]];name = 's';from = 20;to = 30;permeability = 0;[[compartment]];name = 't';from = 29;to = 40;permeability = 0;\n\
+accepted|2:\n\
+accepted|2:[[item]];name = 'a';mass = 1;x = 2;y = 0;z = 3;\n\
+accepted|2:[[item]];name = 'a';mass = 1;x = 2;y = 65535;z = 3;\n\
+accepted|2:[[item]];name = 'a';mass = 1;x = 2;y = -65535;z = 3;\n\
+accepted|2:[[item]];name = 'a';mass = 1;x = 2;z = 3;\n\
+accepted|2:[[item]];y = -5;z = 3;free_surface = 4;x = 2;mass = 1;name = 'a';\n\
+accepted|2:[[item]];free_surface = 4;z = 3;x = 2;mass = 1;name = 'a';y = 5;\n\
+accepted|2:[[item]];name = 'a';mass = 1;x = 2;y = -5;z = 3;[[opening]];name = 'a';y = 1;z = 2;[[compartment]];name = 'a';from = 0;to = 10;permeability = 1;[[damage]];name = 'a';flooded = ['a'];[floodable];centres = [1];step = 2;permeability = 3;\n\
+range item.y 1|2:[[item]];name = 'a';mass = 1;x = 2;y = 65536;z = 3;\n\
+range item.y 1|2:[[item]];name = 'a';mass = 1;x = 2;y = -65536;z = 3;\n\
+range item.y 1|2:[[item]];name = 'a';mass = 1;x = 2;y = 9223372036854775807;z = 3;\n\
+range item.y 1|2:[[item]];name = 'a';mass = 1;x = 2;y = -9223372036854775808;z = 3;\n\
+kind item.y 1|2:[[item]];name = 'a';mass = 1;x = 2;y = '1';z = 3;\n\
+kind item.y 1|2:[[item]];name = 'a';mass = 1;x = 2;y = 1.0;z = 3;\n\
+kind item.y 1|2:[[item]];name = 'a';mass = 1;x = 2;y = true;z = 3;\n\
+kind item.y 1|2:[[item]];name = 'a';mass = 1;x = 2;y = [1];z = 3;\n\
+range item.y 2|2:[[item]];name = 'a';mass = 1;x = 2;y = 1;z = 3;[[item]];name = 'b';mass = 1;x = 2;y = 65536;z = 3;\n\
+range item.x 1|2:[[item]];name = 'a';mass = 1;x = -1;y = 65536;z = 3;\n\
+missing item.x 1|2:[[item]];name = 'a';mass = 1;y = 'a';z = 3;\n\
+range item.y 1|2:[[item]];name = 'a';mass = 1;x = 2;y = 65536;z = -1;\n\
+kind item.y 1|2:[[item]];name = 'a';mass = 1;x = 2;y = 'a';\n\
+missing item.z 1|2:[[item]];name = 'a';mass = 1;x = 2;y = 1;\n\
+unknown item 1|2:[[item]];name = 'a';mass = 1;x = 2;y = 65536;z = 3;size = 1;\n\
+unknown item 1|2:[[item]];name = 'a';mass = 1;x = 2;Y = 1;z = 3;\n\
+twice item.name 2|2:[[item]];name = 'a';mass = 1;x = 2;y = 1;z = 3;[[item]];name = 'a';mass = 1;x = 2;y = -1;z = 3;\n\
+unknown item 1|[[item]];name = 'a';mass = 1;x = 2;y = 0;z = 3;\n\
+unknown item 1|[[item]];name = 'a';mass = 1;x = 2;y = -5;z = 3;\n\
+unknown item 1|[[item]];name = 'a';mass = 1;x = 2;y = 'a';z = 3;\n\
+unknown item 1|[[item]];y = 1;name = 5;mass = -1;\n\
+unknown item 2|[[item]];name = 'a';mass = 1;x = 2;z = 3;[[item]];name = 'b';mass = 1;x = 2;y = 65536;z = 3;\n\
+version|!version = 3;density = 1025;length_bp = 100000;[[item]];name = 'a';mass = 1;x = 2;y = 'a';\n\
+version|!version = 4294967298;density = 1025;length_bp = 100000;\n\
+version|!version = 9223372036854775807;density = 1;length_bp = 100000;\n\
+version|!version = -2;density = 1025;length_bp = 100000;\n\
+kind version 0|!version = '2';density = 1025;length_bp = 100000;\n\
+kind version 0|!version = [2];density = 1025;length_bp = 100000;\n\
+missing density 0|!version = 2;length_bp = 100000;\n\
+unknown top 0|y = 1;\n\
+unknown top 0|2:y = 1;\n\
+unknown top 0|!version = 3;y = 1;\n\
+unknown compartment 1|2:[[compartment]];name = 'a';from = 0;to = 10;permeability = 1;y = 1;\n\
+unknown damage 1|2:[[damage]];name = 'a';flooded = [];y = 1;\n\
+unknown floodable 0|2:[floodable];centres = [1];step = 2;permeability = 3;y = 1;\n";

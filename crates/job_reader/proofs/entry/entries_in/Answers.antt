@@ -15,7 +15,7 @@ returns-in_err-read-clause-err g c =
     let p = err_from_is_err_and c.from_residual.result c.from_residual.ensures.1 in
     rw (p.1, p.2) (elim c.in_err-read.ensures.err [
       | inl memory ↦ inl memory
-      | inr some ↦ inr (stops seen (λ n before t. g.E.Entry.fault n t) c.args.tables.now c.loop-table.table-index _ _ _ c.loop-table-test.true
+      | inr some ↦ inr (stops seen (λ n before t. g.E.Entry.fault c.args.version n t) c.args.tables.now c.loop-table.table-index _ _ _ c.loop-table-test.true
           (rw (c.table_in.ensures, c.table-item.is, c.loop-table.invariant.count) at some) c.loop-table.invariant.sound)
     ])
 
@@ -27,9 +27,9 @@ loop-table-preserved g c =
     record {
       count = ap (λ n. n + 1) c.loop-table.invariant.count;
       few = rw c.in_ok-push.ensures.items (length-append c.loop-table.entries.items (c.in_ok-read.field-0 ∷ []) ∙ ap (λ n. n + 1) c.loop-table.invariant.few);
-      says = rw (c.in_ok-push.ensures.items, tables) (say_more g.E.Entry.says _ _ _ _ c.loop-table.invariant.says says);
-      sound = goes_on seen (λ n before t. g.E.Entry.fault n t) c.args.tables.now c.loop-table.table-index _ _ c.loop-table-test.true sound c.loop-table.invariant.sound;
+      says = rw (c.in_ok-push.ensures.items, tables) (say_more (g.E.Entry.says c.args.version) _ _ _ _ c.loop-table.invariant.says says);
+      sound = goes_on seen (λ n before t. g.E.Entry.fault c.args.version n t) c.args.tables.now c.loop-table.table-index _ _ c.loop-table-test.true sound c.loop-table.invariant.sound;
     }
 
 pub returns-clause-ok : goal.returns-clause-ok
-returns-clause-ok g c = ends seen (λ n before t. g.E.Entry.fault n t) c.args.tables.now c.loop-table.table-index _ c.loop-table-test.false c.loop-table.invariant.sound
+returns-clause-ok g c = ends seen (λ n before t. g.E.Entry.fault c.args.version n t) c.args.tables.now c.loop-table.table-index _ c.loop-table-test.false c.loop-table.invariant.sound

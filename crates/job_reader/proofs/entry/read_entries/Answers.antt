@@ -12,7 +12,7 @@ returns-in_default-clause-says g c =
 pub returns-clause-ok : goal.returns-clause-ok
 returns-clause-ok g c =
     let found = rw c.in-Some.is at (sym c.value_at.ensures) in
-    rw (tables_fault_is g.E.Entry.fault c.args.rule.now _ _ c.in_ok-tables.tables.now found c.in_ok-tables.ensures.ok c.in_ok-tables.ensures.same) c.entries_in.ensures.ok
+    rw (tables_fault_is (g.E.Entry.fault c.args.version) c.args.rule.now _ _ c.in_ok-tables.tables.now found c.in_ok-tables.ensures.ok c.in_ok-tables.ensures.same) c.entries_in.ensures.ok
 
 pub returns-clause-says : goal.returns-clause-says
 returns-clause-says g c =
@@ -22,4 +22,4 @@ returns-clause-says g c =
 pub returns-clause-err : goal.returns-clause-err
 returns-clause-err g c =
     let found = rw c.in-Some.is at (sym c.value_at.ensures) in
-    rw (tables_fault_is g.E.Entry.fault c.args.rule.now _ _ c.in_ok-tables.tables.now found c.in_ok-tables.ensures.ok c.in_ok-tables.ensures.same) c.entries_in.ensures.err
+    rw (tables_fault_is (g.E.Entry.fault c.args.version) c.args.rule.now _ _ c.in_ok-tables.tables.now found c.in_ok-tables.ensures.ok c.in_ok-tables.ensures.same) c.entries_in.ensures.err

@@ -1,8 +1,9 @@
-use Rattle.std.proofs.Common.{◌≤◌, length, map, Some, sym, ◌∙◌, refl, inl, inr, arith}
+use Rattle.std.proofs.Common.{◌≤◌, length, map, Some, sym, ◌∙◌, inl, inr, arith}
 use Rattle.std.proofs.lemmas.Result.{err_from_is_err_and}
 use Rattle.toml.specs.View.{table_view}
 use Rattle.job_reader.specs.Checks.{slab_named}
 use Rattle.job_reader.specs.Entries.{SaysItem, SaysOpening}
+use Rattle.job_reader.specs.Job.{version_of}
 use Rattle.job_reader.specs.declared.key.Key.TheVariants as key
 use Rattle.job_reader.proofs.PartsFacts.{entries_are, entries_first, few_flooded, in_order, values_said, compartments_said, damages_said, room_kept}
 use Rattle.job_reader.proofs.reader.job_of.Goals as goal
@@ -33,7 +34,7 @@ invariant_of-result c =
     let damages = damages_said (λ d. map Some d.slabs) (slab_named c.in_ok-compartments.compartments) (table_view c.args.document.now) parts.damages.items c.in_ok-damages.damages.items says.damages cases in
     let few : length c.in_ok-damages.damages.items ≤ 32 = omega (arith, damages.1, says.damage_count) in
     record {
-      versions = refl;
+      versions = says.versions;
       limits = rw (c.new.ensures, c.new-2.ensures) says.limits;
       room = rw (c.new-3.ensures, c.in_ok-items.ensures, c.deref-2.ensures.value, c.new-4.ensures, c.in_ok-openings.ensures, c.deref-3.ensures.value, c.in_ok-compartments.ensures.same, c.new-5.ensures)
           (room_kept (λ e. e.value) (λ e. e.value) (λ e. (e.name, e.value)) parts.items.items parts.openings.items parts.compartments.items c.in_ok-damages.damages.items says.item_count says.opening_count says.compartment_count few);
@@ -49,13 +50,13 @@ returns-clause-job c =
     let cases = rw c.deref.ensures.value at c.in_ok-damages.ensures in
     let damages = damages_said (λ d. map Some d.slabs) (slab_named c.in_ok-compartments.compartments) (table_view c.args.document.now) parts.damages.items c.in_ok-damages.damages.items says.damages cases in
     record {
-      version = refl;
+      version = says.version;
       density = says.density;
       length_bp = says.length_bp;
       margin = says.margin;
       drafts = c.new.ensures ∙ says.drafts;
       masses = c.new-2.ensures ∙ says.masses;
-      items = rw (c.new-3.ensures, c.in_ok-items.ensures, c.deref-2.ensures.value) (values_said key.ItemName SaysItem _ parts.items.items says.items);
+      items = rw (c.new-3.ensures, c.in_ok-items.ensures, c.deref-2.ensures.value) (values_said key.ItemName (SaysItem (version_of (table_view c.args.document.now))) _ parts.items.items says.items);
       openings = rw (c.new-4.ensures, c.in_ok-openings.ensures, c.deref-3.ensures.value) (values_said key.OpeningName SaysOpening _ parts.openings.items says.openings);
       compartments = rw c.in_ok-compartments.ensures.same (compartments_said _ parts.compartments.items says.compartments);
       damages = rw c.new-5.ensures damages.0;
