@@ -165,6 +165,14 @@ unfolding sum_over
 nonnegative_areas [] = Order.nonnegative-nought fractions
 nonnegative_areas (g ∷ faces) = Order.nonnegative-add fractions (nonnegative-whole (unsigned_abs g.ay + unsigned_abs g.az)) (nonnegative_areas faces)
 
+nonnegative_halves : (faces : List Face) → sign (half_areas faces) ≢ below
+unfolding sum_over
+nonnegative_halves [] = Order.nonnegative-nought fractions
+nonnegative_halves (g ∷ faces) = Order.nonnegative-add fractions
+    (Order.nonnegative-mul fractions (nonnegative-whole (unsigned_abs g.ay + unsigned_abs g.az))
+    (Order.nonnegative_positive fractions (Bounds.positive-inverse fractions (positive-whole 2 (omega arith)))))
+    (nonnegative_halves faces)
+
 -- 2^-16 is sixteen units of 2^-20
 pub sixteen : unit_of 16 ≡ units 20 16
 sixteen = Order.mul_cancel fractions (Order.not_nought fractions (positive-unit 20))
@@ -302,23 +310,59 @@ module _ (faces : Faces) (b : PlaneBox) (few : length faces.list < 2 ^ 14) where
         ∙ ring fraction_ring (g ∷ S ∷ N ∷ s ∷ unit_of 20 ∷ []) (var 1 :* (var 0 :* (((var 3 :+ var 3) :+ (var 3 :+ var 3)) :+ number 64 :* var 4)) :+
         var 2 :* (var 0 :* (var 3 :+ number 16 :* var 4))) total_of refl)
 
-  volumes : sum_over (λ f. volume_part s (doubled_area f)) faces.list ≼ total one
-  volumes = Order.≼_trans fractions (Order.≼_same fractions (sum_affine faces.list (λ f. volume_part s (doubled_area f)) ((s ⊕ s) ⊕ units 20 24)
-      (units 20 2) (λ f. refl)))
-      (order_from fractions (S ∷ N ∷ s ∷ unit_of 20 ∷ []) ((number 2 :* var 0 :+ var 1, number 0, var 2)
-      ∷ (number 40 :* var 0 :+ number 14 :* var 1, number 0, var 3) ∷ [])
-      (scaled (Order.nonnegative-add fractions (Order.nonnegative-mul fractions (Order.nonnegative-number fractions 2) (nonnegative_areas faces.list))
-      (nonnegative-whole (length faces.list))) (Order.nought-≼ fractions spread_is)
-      (scaled (Order.nonnegative-add fractions (Order.nonnegative-mul fractions (Order.nonnegative-number fractions 40)
-      (nonnegative_areas faces.list)) (Order.nonnegative-mul fractions (Order.nonnegative-number fractions 14)
-      (nonnegative-whole (length faces.list)))) (Order.nought-≼ fractions (nonnegative-unit_of 20)) no_more))
+  -- the bound of the volume isn't below 0
+  bound_is : sign W ≢ below
+  unfolding volume_bound
+  bound_is = Order.nonnegative-mul fractions
+      (Order.nonnegative-mul fractions (nonnegative-whole 8) (Order.nonnegative-add fractions (nonnegative_halves faces.list) (nonnegative-whole (2 ^ 17))))
+      (Order.nonnegative-add fractions spread_is (nonnegative-unit_of 16))
+
+  -- half of it is enough for the volume
+  half_enough : S ⊗ ((s ⊕ s) ⊕ units 20 24) ⊕ N ⊗ units 20 2 ≼ (W ⊗ inverse (whole (pos 2)) ⊖ units 20 2) ⊗ whole (pos 2)
+  unfolding volume_bound
+  half_enough = order_from fractions (S ∷ N ∷ s ∷ unit_of 20 ∷ K ∷ half_areas faces.list ∷ inverse (whole (pos 2)) ∷ whole (pos 2) ∷ whole (pos 8) ∷ unit_of 16 ∷ [])
+      ((opposite ((var 5 :+ var 4) :* (var 2 :+ var 9) :* var 6 :* var 7), var 8, number 8)
+      ∷ (opposite (number 8 :* (var 5 :+ var 4) :* (var 2 :+ var 9) :+ number 4 :* var 0 :* (var 2 :+ var 9)), var 7 :* var 6, unit)
+      ∷ (opposite (number 8 :* (var 2 :+ var 9)), var 5, var 0 :* var 6)
+      ∷ (number 4 :* var 0 :* (var 2 :+ var 9) :* var 6 :+ number 2 :* var 3, var 7, number 2)
+      ∷ (opposite (number 4 :* var 0 :+ number 8 :* var 4), var 9, number 16 :* var 3)
+      ∷ (number 2 :* var 3, var 1, var 4) ∷ (number 4 :* var 3, unit, var 4)
+      ∷ (number 2 :* var 0 :+ number 8 :* var 4, number 0, var 2) ∷ (number 40 :* var 0 :+ number 122 :* var 4, number 0, var 3) ∷ [])
+      (equal (whole-number 8) (equal half (equal (half_sum faces.list) (equal (whole-number 2) (equal sixteen
+      (scaled (n 2 (unit_of 20) u) fewer (scaled (n 4 (unit_of 20) u) some_area
+      (scaled (Order.nonnegative-add fractions (n 2 S area) (n 8 K K_is)) (Order.nought-≼ fractions spread_is)
+      (scaled (Order.nonnegative-add fractions (n 40 S area) (n 122 K K_is)) (Order.nought-≼ fractions u) no_more)))))))))
       (var 0 :* ((var 2 :+ var 2) :+ number 24 :* var 3) :+ var 1 :* (number 2 :* var 3))
-      (unit :* (var 0 :* (((var 2 :+ var 2) :+ (var 2 :+ var 2)) :+ number 64 :* var 3) :+ var 1 :* (var 2 :+ number 16 :* var 3))) refl)
+      ((((var 8 :* (var 5 :+ var 4)) :* (var 2 :+ var 9)) :* var 6 :- number 2 :* var 3) :* var 7) refl
+    where
+      u : sign (unit_of 20) ≢ below
+      u = nonnegative-unit_of 20
+
+      area : sign S ≢ below
+      area = nonnegative_areas faces.list
+
+      K_is : sign K ≢ below
+      K_is = nonnegative-whole (2 ^ 17)
+
+      n : (k : ℕ) (x : Fraction) → sign x ≢ below → sign (number_value fraction_ring.operations k ⊗ x) ≢ below
+      n k x h = Order.nonnegative-mul fractions (Order.nonnegative-number fractions k) h
+
+  pub volume-room : {low high lo hi : ℤ} → IsNarrow 20 (sum_over (λ f. volume_part s (doubled_area f)) faces.list) low high → ((hi -ℤ lo) *ℤ pos 2)
+      ≤ℤ ((high -ℤ low) +ℤ pos (2 * 2)) → IsNarrow 20 (W ⊗ inverse (whole (pos 2))) lo hi
+  volume-room narrow quotient = narrow-wider (Order.≼_same fractions (ring fraction_ring ((W ⊗ inverse (whole (pos 2))) ∷ unit_of 20 ∷ [])
+      ((var 0 :- number 2 :* var 1) :+ number 2 :* var 1) (var 0) refl))
+      (narrow-over (W ⊗ inverse (whole (pos 2)) ⊖ units 20 2) 2 (omega arith) quotient narrow (Order.≼_trans fractions
+      (Order.≼_same fractions (sum_affine faces.list (λ f. volume_part s (doubled_area f)) ((s ⊕ s) ⊕ units 20 24) (units 20 2) (λ f. refl))) half_enough))
 
   pub volume-total : {low high lo hi : ℤ} → IsNarrow 20 (sum_over (λ f. volume_part s (doubled_area f)) faces.list) low high → ((hi -ℤ lo) *ℤ pos 2)
       ≤ℤ ((high -ℤ low) +ℤ pos (2 * 2)) → IsNarrow 20 W lo hi
-  volume-total narrow quotient = narrow-wider (Order.≼_same fractions (ring fraction_ring (W ∷ []) (unit :* var 0) (var 0) refl))
-      (over_two one _ (Order.≼_refl fractions one) volumes narrow quotient)
+  volume-total narrow quotient = narrow-wider (order_from fractions (W ∷ inverse (whole (pos 2)) ∷ whole (pos 2) ∷ [])
+      ((var 0, number 0, var 1) ∷ (opposite (var 0 :* var 1), var 2, number 2) ∷ (var 0, var 2 :* var 1, unit) ∷ [])
+      (scaled bound_is (Order.nought-≼ fractions half_is) (equal (whole-number 2) (equal half no_more))) (var 0 :* var 1) (var 0) refl)
+      (volume-room narrow quotient)
+    where
+      half_is : sign (inverse (whole (pos 2))) ≢ below
+      half_is = Order.nonnegative_positive fractions (Bounds.positive-inverse fractions (positive-whole 2 (omega arith)))
 
   pub length-total : {low high lo hi : ℤ} → IsNarrow 20 (sum_over (λ f. length_part (whole faces.last_x) s (doubled_area f)) faces.list) low high
       → ((hi -ℤ lo) *ℤ pos 2) ≤ℤ ((high -ℤ low) +ℤ pos (2 * 2)) → IsNarrow 20 (whole faces.last_x ⊗ W) lo hi
@@ -340,17 +384,5 @@ module _ (faces : Faces) (b : PlaneBox) (few : length faces.list < 2 ^ 14) where
   height-total order narrow quotient = over_four (reach_of faces b) _ (some_reach faces b) (heights (reach_of faces b) (some_reach faces b)) order
       narrow quotient
 
--- ---- the bound of the volume isn't below 0
-nonnegative_halves : (faces : List Face) → sign (half_areas faces) ≢ below
-unfolding sum_over
-nonnegative_halves [] = Order.nonnegative-nought fractions
-nonnegative_halves (g ∷ faces) = Order.nonnegative-add fractions
-    (Order.nonnegative-mul fractions (nonnegative-whole (unsigned_abs g.ay + unsigned_abs g.az))
-    (Order.nonnegative_positive fractions (Bounds.positive-inverse fractions (positive-whole 2 (omega arith)))))
-    (nonnegative_halves faces)
-
 pub nonnegative_bound : (faces : Faces) (b : PlaneBox) → sign (volume_bound faces b) ≢ below
-unfolding volume_bound
-nonnegative_bound faces b = Order.nonnegative-mul fractions
-    (Order.nonnegative-mul fractions (nonnegative-whole 8) (Order.nonnegative-add fractions (nonnegative_halves faces.list) (nonnegative-whole (2 ^ 17))))
-    (Order.nonnegative-add fractions (spread_is faces b faces.few) (nonnegative-unit_of 16))
+nonnegative_bound faces b = bound_is faces b faces.few

@@ -1,7 +1,7 @@
 // The integrals below the planes of a box.
 ghost use Rattle.std.specs.Prelude.{◌≡◌, ◌<◌, ◌*◌, ◌^◌, List, length, pos};
 ghost use Rattle.std.specs.List.{AllByRecursion};
-ghost use Rattle.exact_algebra.proofs.Fraction.{Fraction, ◌⊗◌};
+ghost use Rattle.exact_algebra.proofs.Fraction.{Fraction, ◌⊗◌, inverse};
 ghost use Rattle.exact_algebra.proofs.Span.{ContainsFraction};
 ghost use Rattle.exact_algebra.proofs.Whole.{whole};
 ghost use Rattle.hull_model.specs.declared.station.Station.{Station};
@@ -36,7 +36,8 @@ use outward_interval::Span;
 /// The volume is no wider than W, eight times A (δ + η H + 2^-16 mm): A is half the sum of the magnitudes of the faces'
 /// doubled areas seen from the side and from above, and 2^17 mm²; δ the greater rise of the levels, η the greater
 /// width of the bracket's spans, H the greatest magnitude of a level with the greatest height and half-breadth. `mx` is
-/// no wider than the last x times W, `mv` and `mu` than H times W.
+/// no wider than the last x times W, `mv` and `mu` than H times W. The volume is no wider than half of W, so a
+/// caller may move an end of it outwards by as much.
 ///
 /// The ends lie below 2^113 units of 2^-20 in magnitude, those of the volume below 2^91; those of `mv` are at most
 /// 5 · 2^108, those of `mu` at most 3 · 2^111. One pass over the faces: each stands for the column between its wet part
@@ -51,6 +52,7 @@ pub fn measure(faces: &Faces, planes: &PlaneBox) -> Wet
     ensures mv_ends { EndsAtMost (5 * 2 ^ 108) result.mv.lo result.mv.hi }
     ensures mu_ends { EndsAtMost (3 * 2 ^ 111) result.mu.lo result.mu.hi }
     ensures volume_width { IsNarrow 20 (volume_bound faces.now planes.now) result.volume.lo result.volume.hi }
+    ensures volume_room { IsNarrow 20 (volume_bound faces.now planes.now ⊗ inverse (whole (pos 2))) result.volume.lo result.volume.hi }
     ensures mx_width { IsNarrow 20 (whole faces.now.last_x ⊗ volume_bound faces.now planes.now) result.mx.lo result.mx.hi }
     ensures mv_width { IsNarrow 20 (reach_of faces.now planes.now ⊗ volume_bound faces.now planes.now) result.mv.lo result.mv.hi }
     ensures mu_width { IsNarrow 20 (reach_of faces.now planes.now ⊗ volume_bound faces.now planes.now) result.mu.lo result.mu.hi }

@@ -5,7 +5,7 @@ use Rattle.std.specs.Int.{w64}
 use Rattle.flux_moments.specs.Columns.{columns_volume, columns_mx, columns_mv, columns_mu}
 use Rattle.flux_moments.proofs.ColumnSums.{quotient_at_most}
 use Rattle.flux_moments.proofs.Measured.{measured, volume_measured, mx_measured, mv_measured, mu_measured}
-use Rattle.flux_moments.proofs.TotalWidths.{sums_of, volume-total, length-total, side-total, height-total}
+use Rattle.flux_moments.proofs.TotalWidths.{sums_of, volume-room, volume-total, length-total, side-total, height-total}
 use Rattle.flux_moments.proofs.sums.measure.Goals as goal
 
 pub returns-clause-volume_width : goal.returns-clause-volume_width
@@ -15,6 +15,14 @@ returns-clause-volume_width c =
     let widths = sums_of faces c.args.planes.now c.list.ensures.limits c.list.result.now _ c.column_sums-sums.result c.list.ensures.same last
     c.column_sums-sums.ensures.widths in
     volume-total faces c.args.planes.now c.list.ensures.few widths.volume c.over_whole.ensures.width
+
+pub returns-clause-volume_room : goal.returns-clause-volume_room
+returns-clause-volume_room c =
+    let faces = c.args.faces.now in
+    let last = to_z-of_z w64 c.last_x.result (record { sfits = c.last_x.type_inv }) ∙ c.last_x.ensures.same in
+    let widths = sums_of faces c.args.planes.now c.list.ensures.limits c.list.result.now _ c.column_sums-sums.result c.list.ensures.same last
+    c.column_sums-sums.ensures.widths in
+    volume-room faces c.args.planes.now c.list.ensures.few widths.volume c.over_whole.ensures.width
 
 pub returns-clause-mx_width : goal.returns-clause-mx_width
 returns-clause-mx_width c =
