@@ -264,6 +264,9 @@ def items(job, hull):
                 yield in_metres(f"x of item {named(entry)}", x)
             if not hull.aft <= x <= hull.fore:
                 yield f"item {named(entry)} is at x {x}, outside the hull, which goes from {hull.aft} to {hull.fore}. x counts from x = 0 of the offsets, in mm"
+        for y in numbers(entry.get("y")):
+            if abs(y) > hull.half_breadth:
+                yield f"item {named(entry)} is {abs(y)} from the centreplane, and the hull's half-breadth is {hull.half_breadth}. Is y in mm?"
         for z in numbers(entry.get("z")):
             if near_zero(z, hull.depth):
                 yield in_metres(f"z of item {named(entry)}", z)

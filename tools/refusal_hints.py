@@ -27,7 +27,7 @@ FORMS = {
 }
 KEYS = {
     "top": "version density length_bp margin drafts displacements item opening compartment damage floodable",
-    "item": "name mass x z free_surface",
+    "item": "name mass x y z free_surface",
     "opening": "name y z",
     "compartment": "name from to permeability",
     "damage": "name flooded",

@@ -3,10 +3,10 @@
 
     tools/report_csv.py REPORT [--table NAME] [--out FOLDER]
 
-A table has one row for each line of its name: hydro, section, cross, load, upright, arm, mark, damage, safe, next. Each
-figure takes two columns, its low and its high end, as printed; an absent figure leaves both empty. With --out each
-table that has rows is written to FOLDER/NAME.csv; otherwise one table (--table, or the only one that has rows) goes to
-the output. Ends with 1 and the number of the line where a line is outside the grammar, and with 1 and the line itself
+A table has one row for each line of its name: hydro, section, cross, load, upright, arm, mark, damage, safe, next. Of a
+job of version 2 the tables load and arm have the columns of both sides. Each figure takes two columns, its low and its
+high end, as printed; an absent figure leaves both empty. With --out each table that has rows is written to
+FOLDER/NAME.csv; otherwise one table (--table, or the only one that has rows) goes to the output. Ends with 1 and the number of the line where a line is outside the grammar, and with 1 and the line itself
 where there is a `refused` or a `fault` line in place of a report. Of a report that was cut, standard error says so.
 """
 
@@ -42,6 +42,12 @@ HEADS = {
     "next": ["centre_mm", "length_mm", "reason", "station", *SIDES],
 }
 
+# Of jobs of version 2; a row of version 1 has figures to port alone, and no TCG.
+SIDED = {
+    "load": ["mass_kg", *both("lcg_m"), *both("tcg_m"), *both("kg_m")],
+    "arm": ["degree", "d1", "d2", *both("gz_m"), *both("area_m_rad"), *both("starboard_gz_m"), *both("starboard_area_m_rad")],
+}
+
 
 def cells(word):
     """The columns of a word: two for a figure, one for any other."""
@@ -67,9 +73,11 @@ def row_of(words):
 
 def table_text(rows, name):
     text = io.StringIO()
-    out = csv.writer(text, lineterminator="\n")
-    out.writerow(HEADS[name])
-    out.writerows(rows)
+    head = SIDED[name] if any(len(row) > len(HEADS[name]) for row in rows) else HEADS[name]
+    out = csv.DictWriter(text, head, restval="", lineterminator="\n")
+    out.writeheader()
+    for row in rows:
+        out.writerow(dict(zip(head if len(row) == len(head) else HEADS[name], row)))
     return text.getvalue()
 
 

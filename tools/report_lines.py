@@ -10,29 +10,35 @@ import re
 import sys
 
 WHOLE = re.compile(r"(?:0|-?[1-9][0-9]*)\Z")
-COMMANDS = "hydro bonjean cross stability damage floodable all section make".split()
+COMMANDS = "hydro bonjean cross stability damage floodable all section make tanks strength flooded".split()
 FINDINGS = "holds fails unsure".split()
 SIDES = ["i64", "i64", "i64", "i64"]
-SHOWN = [["interval", "u32", "figure"], ["pair", "u32", "u32"], ["leak", "u32", "u32", "figure"]]
+SHOWN = [
+    ["interval", "u32", "figure"], ["pair", "u32", "u32"], ["leak", "u32", "u32", "figure"], ["heel", "u32", "u32", "figure"],
+    ["heels", "u32", "u32", "u32", "u32"],
+]
+ENDS = [SIDES, ["sinks", "figure"], ["nostart", "fore"], ["nostart", "aft"]]
+LEVERS = ["i64", "i64", "figure", "figure", "figure", "figure"]
+CALLS = ["fail", "undecided"]
 
 # Each form is the words of a line: kinds of word, or names that stand as they are.
 FORMS = [
-    ["hullcert", "1", "command"],
+    ["hullcert", "version", "command"],
     ["hull", "u32", "u32"],
     ["body", "i128"],
     ["hydro", "u32", "figure", "figure", "absent", "absent", "figure"] + ["absent"] * 4 + ["figure", "absent"],
     ["section", "u32", "u32", "u32", "figure", "moment"],
     ["cross", "u64", "u32", "i64", "i64", "figure"],
     ["load", "u64", "figure", "figure"],
+    ["load", "u64", "figure", "figure", "figure"],
     ["upright", "i64", "i64", "figure", "figure", "figure"],
     ["arm", "u32", "i64", "i64", "figure", "figure"],
+    ["arm", "u32"] + LEVERS,
     ["mark", "criterion", "finding"],
     ["verdict", "pass"],
-    *[["verdict", call, "criterion"] + shown for call in ("fail", "undecided") for shown in SHOWN],
-    ["damage", "u32"] + SIDES,
-    ["damage", "u32", "sinks", "figure"],
-    ["damage", "u32", "nostart", "fore"],
-    ["damage", "u32", "nostart", "aft"],
+    *[["verdict", call, "criterion"] + shown for call in CALLS for shown in SHOWN],
+    *[["verdict", call, "criterion", "side"] + shown for call in CALLS for shown in SHOWN],
+    *[["damage", "u32"] + end for end in ENDS],
     ["safe", "u32", "u32"] + SIDES,
     ["safe", "u32", "-"],
     ["next", "u32", "u32", "over", "u32"] + SIDES,
@@ -40,6 +46,16 @@ FORMS = [
     ["next", "u32", "u32", "sinks"],
     ["next", "u32", "u32", "nostart"],
     ["next", "u32", "u32", "endofship"],
+    ["tank", "u32", "u32", "figure", "absent", "absent", "figure"],
+    *[["float"] + end for end in ENDS],
+    ["strength", "u32", "u32", "figure", "figure"],
+    ["darm", "u32", "u32"] + LEVERS,
+    ["dshort", "u32", "u32", "figure"],
+    ["hulllimits", "1"],
+    ["limit", "u64", "u32"],
+    ["limit", "u64", "-"],
+    ["beyond", "u64", "u32", "endofrange"],
+    *[["beyond", "u64", "u32", call, "criterion"] + shown for call in CALLS for shown in SHOWN],
     ["end", "u32"],
 ]
 
@@ -84,6 +100,8 @@ KINDS = {
     "criterion": lambda word: re.fullmatch(r"C[1-6]", word) is not None,
     "command": lambda word: word in COMMANDS,
     "finding": lambda word: word in FINDINGS,
+    "version": lambda word: word in ("1", "2"),
+    "side": lambda word: word in ("port", "starboard"),
 }
 
 

@@ -7,7 +7,8 @@
 
 The curves are volume, displacement, lcb, kb, waterplane, lcf, bmt, bml, kmt, tpc, mct (hydro lines, over the draft),
 station0, station1, .. (section lines: the area of that station over the draft), kn6000000, .. (cross lines: KN over the
-heel, one curve for each displacement in kg), gz and area (arm lines, over degrees of heel), floodable (safe and next
+heel, one curve for each displacement in kg), gz and area (arm lines, over degrees of heel; to starboard gz_starboard and
+area_starboard, where the report tells the sides apart), floodable (safe and next
 lines: the lengths over their centres), damage1, damage2, .. (damage lines in their order: the waterline of a case along
 the ship). Reports may be joined to one file: curves take the lines of all. Figures that are absent break a curve. All
 stations share a frame, all KN, and all damage cases.
@@ -142,9 +143,12 @@ def area_limits(points):
 
 def arm_curves(lines):
     rows = [words for words in lines if words[0] == "arm"]
+    sided = [words for words in rows if len(words) == 8]
     for (name, title, at), limits_of in zip(ARM, (lever_limits, area_limits)):
         points = [Point(float(words[1]), report_lines.figure_of(words[at]), False) for words in rows]
-        yield name, Curve(HEEL, title, points, limits_of(points))
+        yield name, Curve(HEEL, f"{title}, to port" if sided else title, points, limits_of(points))
+        points = [Point(float(words[1]), report_lines.figure_of(words[at + 2]), False) for words in sided]
+        yield f"{name}_starboard", Curve(HEEL, f"{title}, to starboard", points, limits_of(points))
 
 
 def cross_curves(lines):
