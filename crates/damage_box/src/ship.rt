@@ -22,11 +22,11 @@ use outward_interval::Span;
 /// Grid units in a mm.
 const GRID: i64 = 1024;
 
-/// The box of levels in which a flooded ship floats upright: wherever in it the moments of what is left of the hull are
-/// those of the volume that the load displaces, about the first station and about the last.
+/// The box of levels about the plane at which a flooded ship floats upright. There the moments of what is left of the hull,
+/// about the first station and about the last, are those of the volume that the load displaces.
 ///
-/// On its sides the residuals have their signs, so that such a plane lies within. No side can be moved inwards by a grid
-/// unit without a residual there that is about 0. `Sinks` comes where the volume that is left of the whole hull is
+/// On the box's sides the residuals of these moments have opposite signs. No side can be moved inwards by a grid unit
+/// without a residual there that is about 0. `Sinks` comes where the volume that is left of the whole hull is
 /// enclosed below the one that the load displaces, and `NoStart` where none of sixteen planes of a tip shows the signs.
 /// The ends of `left` lie below 2^96 units of 2^-20 mm³.
 pub fn settle(
