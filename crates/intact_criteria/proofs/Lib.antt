@@ -32,3 +32,4 @@ pub mod SmallArms
 pub mod NarrowLaws
 pub mod DepthWidths
 pub mod AreasHeld
+pub mod StatedWidths

@@ -20,5 +20,6 @@ pub mod Right
 pub mod Open
 pub mod Bounds
 pub mod Narrow
+pub mod Stated
 pub mod Areas
 pub mod Decided

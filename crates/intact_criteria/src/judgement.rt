@@ -3,6 +3,7 @@ ghost use Rattle.std.specs.Prelude.{◌≡◌, ◌≤◌, List, length};
 ghost use Rattle.outward_interval.specs.Ends.{EndsBelow};
 ghost use Rattle.hull_model.specs.declared.station.Station.{Station};
 ghost use Rattle.hull_model.specs.declared.water.Water.{Water};
+ghost use Rattle.hull_polyhedron.specs.declared.faces.Faces.{Faces};
 ghost use Rattle.loading_sheet.specs.declared.loading.Loading.{Loading};
 ghost use Rattle.intact_criteria.specs.C1 as C1;
 ghost use Rattle.intact_criteria.specs.C2 as C2;
@@ -17,6 +18,7 @@ ghost use Rattle.intact_criteria.specs.Narrow.{IsAsNarrowAsRead};
 ghost use Rattle.intact_criteria.specs.Open.{IsOpenIfUndecided};
 ghost use Rattle.intact_criteria.specs.Readings.{readings_of, leaks_of, separation_at, gz_at, ends_of};
 ghost use Rattle.intact_criteria.specs.Right.{AreRightMarks, IsRightVerdict};
+ghost use Rattle.intact_criteria.specs.Stated.{IsAsNarrowAsStated};
 ghost use Rattle.intact_criteria.specs.Tables.{HoldFigures, AreSmallArms};
 
 use crate::both::{mark_of, on_both, verdict_of};
@@ -41,7 +43,7 @@ use hull_model::Opening;
 /// holds at every choice, and Fails only where it holds at none; else the mark is Unsure. The verdict is Fail with the
 /// first criterion whose mark is Fails; where none is, Undecided with the first that is Unsure; else Pass. It shows what
 /// decides on the first side that has the mark, port before starboard; what it shows of an undecided criterion leaves it
-/// open.
+/// open, and is no wider than stated of the tables that `arms` and `upright` give.
 ///
 /// The ends of the tables' spans lie below 2^95 in magnitude, as those of `arms` and `upright` do; the ends of what is
 /// shown lie below 2^96.
@@ -54,6 +56,7 @@ pub fn judge(arms: &ArmTable, upright: &UprightRow, openings: &[Opening]) -> Fin
     ensures verdict { (hull : List Station) (loading : Loading) (water : Water) → HoldFigures hull loading water arms.now upright.now → IsRightVerdict hull loading water arms.now upright.now openings.now result.verdict }
     ensures undecided { ByBrackets (λ brackets. IsOpenIfUndecided (readings_of brackets arms.now upright.now openings.now) result.verdict) }
     ensures narrow { ByBrackets (λ brackets. IsAsNarrowAsRead (readings_of brackets arms.now upright.now openings.now) result.verdict) }
+    ensures stated { (faces : Faces) (loading : Loading) (water : Water) → IsAsNarrowAsStated faces loading water arms.now upright.now openings.now result.verdict }
     ensures bounded { IsBoundedVerdict result.verdict }
     ensures count { length arms.now.rows ≡ 91 }
 {

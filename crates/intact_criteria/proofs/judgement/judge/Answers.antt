@@ -7,6 +7,7 @@ use Rattle.intact_criteria.proofs.Sizes.{depths_small}
 use Rattle.intact_criteria.proofs.NarrowLaws.{open_is_narrow}
 use Rattle.intact_criteria.proofs.SmallArms.{gz_small, separation_small}
 use Rattle.intact_criteria.proofs.Soundness.{AreSmall}
+use Rattle.intact_criteria.proofs.StatedWidths.{as_stated}
 use Rattle.intact_criteria.proofs.MarksLaws.{found_right}
 use Rattle.intact_criteria.proofs.VerdictLaws.{findings_right, findings_open, findings_bounded}
 use Rattle.intact_criteria.proofs.judgement.judge.Goals as goal
@@ -53,3 +54,7 @@ pub returns-clause-narrow : goal.returns-clause-narrow
 returns-clause-narrow c =
     let open_so = returns-clause-undecided c in
     (open_so.0, open_so.1, open_is_narrow (readings_of open_so.0 c.args.arms.now c.args.upright.now c.args.openings.now) c.verdict_of.result open_so.2)
+
+pub returns-clause-stated : goal.returns-clause-stated
+returns-clause-stated c faces loading water =
+    as_stated faces loading water c.args.arms.now c.args.upright.now c.args.openings.now c.arm_at-upright.ensures.count c.verdict_of.result (returns-clause-narrow c)
