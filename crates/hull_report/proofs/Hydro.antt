@@ -7,6 +7,7 @@ use Rattle.outward_interval.specs.declared.figure.Figure.{Figure}
 use Rattle.hull_report.specs.Spelling.{word_text, spaced, figure_or_absent, figure_words}
 
 same_text : (may : Bool) (f : Option Figure) → word_text (figure_or_absent may f) ≡ word_text (figure_or_absent true f)
+unfolding word_text
 same_text true f = refl
 same_text false (Some f) = refl
 same_text false None = refl

@@ -4,6 +4,10 @@ pub mod Digits
 pub mod Figures
 pub mod Hydro
 pub mod Numbers
+pub mod Spaced
 pub mod WordTexts
+pub mod VerdictTexts
+pub mod OutcomeTexts
+pub mod FurtherTexts
 pub mod LineTexts
 pub mod Texts

@@ -7,7 +7,7 @@ use Rattle.std.proofs.lemmas.Nat.{div-add-mod'}
 use Rattle.std.proofs.Math.Nat.{div-le_self, mod-lt, one-le-pow}
 use Rattle.outward_interval.specs.Text.{last_digits, end_text, figure_text}
 use Rattle.outward_interval.specs.declared.figure.Figure.{Figure}
-use Rattle.hull_report.specs.Reading.{◌>>=◌, cut, digits_after, unsigned, positive, negative, signed_by, signed, half, within, figure, criterion}
+use Rattle.hull_report.specs.Reading.{◌>>=◌, cut, digits_after, unsigned, positive, negative, signed_by, signed, half, within, up_to, version, figure, criterion}
 use Rattle.hull_report.proofs.Ranges.{Within, within_append, wider, lacks, decimal_digits, last_digits_digits, end_bytes, abs_small}
 use Rattle.hull_report.proofs.Cuts.{cut_at, cut_none}
 use Rattle.hull_report.proofs.Digits.{decimal_number, decimals_number}
@@ -82,8 +82,15 @@ pub half_is : (z : ℤ) → FitsSigned w64 z → half z ≡ Some z
 half_is (pos n) f = rw (le-leb n (2 ^ 63 - 1) (omega (arith, f.sfits))) refl
 half_is (negsuc n) f = rw (le-leb n (2 ^ 63 - 1) (omega (arith, f.sfits))) refl
 
+up_to_is : (most n : ℕ) → 1 ≤ n → n ≤ most → up_to most n ≡ Some n
+up_to_is most n l h = rw (le-leb _ _ l, le-leb _ _ h) refl
+
+pub version_is : (n : ℕ) → 1 ≤ n → n ≤ 2 → version (decimal n) ≡ Some n
+unfolding version
+version_is n l h = ap (λ n. n >>= up_to 2) (unsigned_decimal n (omega (arith, h))) ∙ up_to_is 2 n l h
+
 pub criterion_is : (n : ℕ) → 1 ≤ n → n ≤ 6 → criterion (codes "C" ++ decimal n) ≡ Some n
 unfolding criterion
 criterion_is n l h =
     let behind_c : cut 67 (67 ∷ decimal n) ≡ Some ([], decimal n) = cut_at 67 [] (decimal n) tt in
-    rw (behind_c, unsigned_decimal n (omega (arith, h)), le-leb _ _ l, le-leb _ _ h) refl
+    rw (behind_c, unsigned_decimal n (omega (arith, h))) (up_to_is 6 n l h)

@@ -4,8 +4,8 @@ use Rattle.std.specs.Global.{Vec}
 use Rattle.std.proofs.lemmas.List.{append-nil, length-append}
 use Rattle.hull_report.specs.declared.line.Line.{Line}
 use Rattle.hull_report.specs.Spelling.{Word, word_text, AreWords, IsLine, AreLines, joined, spaced, line_words, line_text, lines_text}
-use Rattle.hull_report.specs.declared.line.ReadBack.{ReadBack}
-use Rattle.hull_report.specs.declared.line.ReadBack.TheVariants as back
+use Rattle.hull_report.specs.declared.read_back.ReadBack.{ReadBack}
+use Rattle.hull_report.specs.declared.read_back.ReadBack.TheVariants as back
 use Rattle.hull_report.specs.Answers.{Begins, IsFirstBad, Answers, IsReadAs, IsBadAt}
 use Rattle.hull_report.specs.Reading.{cut}
 use Rattle.hull_report.specs.Fields.{line_at}

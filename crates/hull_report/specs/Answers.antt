@@ -2,8 +2,8 @@
 use Rattle.std.specs.Prelude.{◌≡◌, ◌≢◌, ◌<◌, ℕ, suc, List, ◌++◌, length, Option, Some, None, Result, Ok, Err, ⊤, ◌⊎◌}
 use Rattle.std.specs.Global.{Vec}
 use Rattle.hull_report.specs.declared.line.Line.{Line}
-use Rattle.hull_report.specs.declared.line.ReadBack.{ReadBack}
-use Rattle.hull_report.specs.declared.line.ReadBack.TheVariants as back
+use Rattle.hull_report.specs.declared.read_back.ReadBack.{ReadBack}
+use Rattle.hull_report.specs.declared.read_back.ReadBack.TheVariants as back
 use Rattle.hull_report.specs.Spelling.{IsLine, AreLines, line_text, lines_text}
 
 -- bytes that begin with the text of a line, and what follows it; or with that of no line

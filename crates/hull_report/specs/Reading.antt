@@ -6,11 +6,14 @@ use Rattle.std.specs.Str.{bytes_eq}
 use Rattle.std.specs.Char.{is_ascii_digit}
 use Rattle.std.specs.Int.Signed.{le_z, le_z_yes, ◌≤ℤ◌}
 use Rattle.outward_interval.specs.declared.figure.Figure.{Figure}
-use Rattle.hull_report.specs.declared.line.Command.{Command}
-use Rattle.hull_report.specs.declared.line.Command.TheVariants as of
-use Rattle.hull_report.specs.declared.line.Finding.{Finding}
-use Rattle.hull_report.specs.declared.line.Finding.TheVariants as found
+use Rattle.hull_report.specs.declared.names.Command.{Command}
+use Rattle.hull_report.specs.declared.names.Command.TheVariants as of
+use Rattle.hull_report.specs.declared.names.Finding.{Finding}
+use Rattle.hull_report.specs.declared.names.Finding.TheVariants as found
+use Rattle.hull_report.specs.declared.names.SideLine.{SideLine}
+use Rattle.hull_report.specs.declared.names.SideLine.TheVariants as on
 use Rattle.hull_report.specs.declared.line.Sides.{Sides}
+use Rattle.hull_report.specs.declared.words.Lever.{Lever}
 
 infixl 10 ◌>>=◌
 abbrev pub ◌>>=◌ : {A B : Type 0} → Option A → (A → Option B) → Option B
@@ -82,12 +85,20 @@ within bits n = if nat_lt n (2 ^ bits) then Some n else None
 abbrev pub half : ℤ → Option ℤ
 half z = if le_z (neg_ℤ (pos (2 ^ 63))) z && le_z z (pos (2 ^ 63 - 1)) then Some z else None
 
+-- a number from 1 to the most
+abbrev pub up_to : ℕ → ℕ → Option ℕ
+up_to most n = if nat_le 1 n && nat_le n most then Some n else None
+
+-- the version, 1 or 2
+unfoldable pub version : List ℕ → Option ℕ
+version word = unsigned word >>= up_to 2
+
 -- the criterion behind its C
 unfoldable pub criterion : List ℕ → Option ℕ
 criterion word = do
   parts ← cut 67 word
   n ← unsigned parts.1
-  if nat_le 1 n && nat_le n 6 then Some n else None
+  up_to 6 n
 
 unfoldable pub command : List ℕ → Option Command
 command word =
@@ -100,6 +111,9 @@ command word =
     else if bytes_eq word (codes "all") then Some of.All
     else if bytes_eq word (codes "section") then Some of.Section
     else if bytes_eq word (codes "make") then Some of.Make
+    else if bytes_eq word (codes "tanks") then Some of.Tanks
+    else if bytes_eq word (codes "strength") then Some of.Strength
+    else if bytes_eq word (codes "flooded") then Some of.Flooded
     else None
 
 unfoldable pub finding : List ℕ → Option Finding
@@ -107,6 +121,12 @@ finding word =
     if bytes_eq word (codes "holds") then Some found.Holds
     else if bytes_eq word (codes "fails") then Some found.Fails
     else if bytes_eq word (codes "unsure") then Some found.Unsure
+    else None
+
+unfoldable pub side : List ℕ → Option SideLine
+side word =
+    if bytes_eq word (codes "port") then Some on.Port
+    else if bytes_eq word (codes "starboard") then Some on.Starboard
     else None
 
 -- what a step of reading returned, and what it left, is what reading gives
@@ -137,6 +157,9 @@ i128_at bytes = next_at signed bytes
 unfoldable pub figure_at : List ℕ → Option (Figure × List ℕ)
 figure_at bytes = next_at figure bytes
 
+unfoldable pub version_at : List ℕ → Option (ℕ × List ℕ)
+version_at bytes = next_at version bytes
+
 unfoldable pub criterion_at : List ℕ → Option (ℕ × List ℕ)
 criterion_at bytes = next_at criterion bytes
 
@@ -149,6 +172,21 @@ finding_at bytes = next_at finding bytes
 -- a figure, or none where the word is a dash
 unfoldable pub absent_at : List ℕ → Option (Option Figure × List ℕ)
 absent_at bytes = if bytes_eq (word_at bytes).0 (codes "-") then Some (None, (word_at bytes).1) else (figure_at bytes >>= λ f. Some (Some f.0, f.1))
+
+-- the side, where the next word is one
+abbrev pub side_by : Option (SideLine × List ℕ) → List ℕ → Option SideLine × List ℕ
+side_by (Some s) bytes = (Some s.0, s.1)
+side_by None bytes = (None, bytes)
+
+unfoldable pub side_at : List ℕ → Option SideLine × List ℕ
+side_at bytes = side_by (next_at side bytes) bytes
+
+-- GZ and the area below it
+unfoldable pub lever_at : List ℕ → Option (Lever × List ℕ)
+lever_at bytes = do
+  gz ← figure_at bytes
+  area ← figure_at gz.1
+  Some (record { gz = gz.0; area = area.0 }, area.1)
 
 unfoldable pub sides_at : List ℕ → Option Sides
 sides_at bytes = do

@@ -3,8 +3,10 @@ ghost use Rattle.std.specs.Prelude.{◌≡◌, IfSome};
 ghost use Rattle.hull_report.specs.Spelling.{IsLine};
 ghost use Rattle.hull_report.specs.Fields as reading;
 
+use crate::further::further;
 use crate::line::Line;
-use crate::outcomes::{damage, next, safe, verdict};
+use crate::outcomes::{damage, next, safe};
+use crate::verdicts::verdict;
 use crate::words::Words;
 
 /// A line whose text may be `text`. It is where the text is a line's: then it is that line.
@@ -39,7 +41,7 @@ fn fields(name: &[u8], words: &mut Words<'_>) -> Option<Line>
         name if name == b"safe".as_slice() => safe(words),
         name if name == b"next".as_slice() => next(words),
         name if name == b"end".as_slice() => end(words),
-        _ => None,
+        _ => further(name, words),
     }
 }
 
@@ -48,8 +50,8 @@ fn header(words: &mut Words<'_>) -> Option<Line>
     ensures value { result ≡ reading.header_at words.old.rest.now }
     ensures fits { IfSome result IsLine }
 {
-    words.next();
     Some(Line::Header {
+        version: words.version()?,
         command: words.command()?,
     })
 }
@@ -139,10 +141,21 @@ fn load(words: &mut Words<'_>) -> Option<Line>
     ensures value { result ≡ reading.load_at words.old.rest.now }
     ensures fits { IfSome result IsLine }
 {
-    Some(Line::Load {
-        mass: words.u64()?,
-        lcg: words.figure()?,
-        kg: words.figure()?,
+    let mass = words.u64()?;
+    let lcg = words.figure()?;
+    let second = words.figure()?;
+    Some(match words.figure() {
+        Some(kg) => Line::Load2 {
+            mass,
+            lcg,
+            tcg: second,
+            kg,
+        },
+        None => Line::Load {
+            mass,
+            lcg,
+            kg: second,
+        },
     })
 }
 
@@ -165,12 +178,27 @@ fn arm(words: &mut Words<'_>) -> Option<Line>
     ensures value { result ≡ reading.arm_at words.old.rest.now }
     ensures fits { IfSome result IsLine }
 {
-    Some(Line::Arm {
-        degree: words.u32()?,
-        d1: words.i64()?,
-        d2: words.i64()?,
-        gz: words.figure()?,
-        area: words.figure()?,
+    let degree = words.u32()?;
+    let d1 = words.i64()?;
+    let d2 = words.i64()?;
+    let port = words.lever()?;
+    Some(match words.lever() {
+        Some(star) => Line::Arm2 {
+            degree,
+            d1,
+            d2,
+            port_gz: port.gz,
+            port_area: port.area,
+            star_gz: star.gz,
+            star_area: star.area,
+        },
+        None => Line::Arm {
+            degree,
+            d1,
+            d2,
+            gz: port.gz,
+            area: port.area,
+        },
     })
 }
 

@@ -1,64 +1,9 @@
-// The lines of a report, and why bytes are no report.
-ghost use Rattle.std.specs.Prelude.{◌≡◌};
-ghost use Rattle.hull_report.specs.Spelling.{command_name, finding_name};
-
-use exact_fraction::Memory;
+// The lines of a report.
+use crate::names::{Command, Finding, SideLine};
 use outward_interval::Figure;
-use std::alloc::{AllocError, AllocFailed};
 
-/// The command that a report answers.
-#[derive(Clone, Copy, Debug, PartialEq, Eq)]
-pub enum Command {
-    Hydro,
-    Bonjean,
-    Cross,
-    Stability,
-    Damage,
-    Floodable,
-    All,
-    Section,
-    Make,
-}
-
-impl Command {
-    pub(crate) fn name(&self) -> &'static [u8]
-        ensures { result.now ≡ command_name self.now }
-    {
-        match self {
-            Command::Hydro => b"hydro",
-            Command::Bonjean => b"bonjean",
-            Command::Cross => b"cross",
-            Command::Stability => b"stability",
-            Command::Damage => b"damage",
-            Command::Floodable => b"floodable",
-            Command::All => b"all",
-            Command::Section => b"section",
-            Command::Make => b"make",
-        }
-    }
-}
-
-/// What was found of a criterion: it holds or fails at every waterplane within the intervals, or neither.
-#[derive(Clone, Copy, Debug, PartialEq, Eq)]
-pub enum Finding {
-    Holds,
-    Fails,
-    Unsure,
-}
-
-impl Finding {
-    pub(crate) fn name(&self) -> &'static [u8]
-        ensures { result.now ≡ finding_name self.now }
-    {
-        match self {
-            Finding::Holds => b"holds",
-            Finding::Fails => b"fails",
-            Finding::Unsure => b"unsure",
-        }
-    }
-}
-
-/// Where a criterion was lost or is unsure. Degrees of heel; levers in m, areas in m·rad, with 6 decimals.
+/// Where a criterion was lost or is unsure: degrees of heel, or leaves between the directions of two numbers, from 0 to
+/// 16777216. Levers in m, areas in m·rad, with 6 decimals.
 #[derive(Clone, Copy, Debug, PartialEq, Eq)]
 pub enum ShownLine {
     Interval {
@@ -74,14 +19,33 @@ pub enum ShownLine {
         degree: u32,
         figure: Figure,
     },
+    Heel {
+        q: u32,
+        q2: u32,
+        figure: Figure,
+    },
+    Heels {
+        q: u32,
+        q2: u32,
+        p: u32,
+        p2: u32,
+    },
 }
 
-/// The verdict over all criteria. A criterion is a number from 1 to 6.
+/// The verdict over all criteria. A criterion is a number from 1 to 6. Version 2 names the side.
 #[derive(Clone, Copy, Debug, PartialEq, Eq)]
 pub enum Call {
     Pass,
-    Fail { criterion: u32, shown: ShownLine },
-    Undecided { criterion: u32, shown: ShownLine },
+    Fail {
+        criterion: u32,
+        side: Option<SideLine>,
+        shown: ShownLine,
+    },
+    Undecided {
+        criterion: u32,
+        side: Option<SideLine>,
+        shown: ShownLine,
+    },
 }
 
 /// The sides of a box of waterplanes, in grid units: the levels aft and at the fore end.
@@ -93,7 +57,7 @@ pub struct Sides {
     pub f2: i64,
 }
 
-/// How a damage case ends. What is left over is in m³, with 6 decimals.
+/// Where a ship comes to rest, damaged or not. What is left over is in m³, with 6 decimals.
 #[derive(Clone, Copy, Debug, PartialEq, Eq)]
 pub enum CaseEnd {
     Settled { sides: Sides },
@@ -119,13 +83,22 @@ pub enum ReasonLine {
     EndOfShip,
 }
 
+/// Why a greater height of the centre of gravity isn't safe. A criterion is a number from 1 to 6.
+#[derive(Clone, Copy, Debug, PartialEq, Eq)]
+pub enum LimitLine {
+    EndOfRange,
+    Fail { criterion: u32, shown: ShownLine },
+    Undecided { criterion: u32, shown: ShownLine },
+}
+
 /// A line of a report, with its fields in the order of its text.
 ///
 /// Figures have 6 decimals, the moment of a section 9.
 #[derive(Clone, Copy, Debug, PartialEq, Eq)]
 pub enum Line {
-    /// The first line.
+    /// The first line: the version, 1 or 2, and the command.
     Header {
+        version: u32,
         command: Command,
     },
     /// The numbers of stations and of points as kept.
@@ -165,6 +138,13 @@ pub enum Line {
         lcg: Figure,
         kg: Figure,
     },
+    /// The same in version 2: the mass in kg, and the centre of gravity's x, y and height in m.
+    Load2 {
+        mass: u64,
+        lcg: Figure,
+        tcg: Figure,
+        kg: Figure,
+    },
     /// The draft bracket in grid units, and KB, BM and GM in m.
     Upright {
         d1: i64,
@@ -180,6 +160,17 @@ pub enum Line {
         d2: i64,
         gz: Figure,
         area: Figure,
+    },
+    /// The same in version 2: a degree of heel, the draft bracket in grid units, and of each side GZ in m and the area
+    /// below GZ in m·rad.
+    Arm2 {
+        degree: u32,
+        d1: i64,
+        d2: i64,
+        port_gz: Figure,
+        port_area: Figure,
+        star_gz: Figure,
+        star_area: Figure,
     },
     /// What was found of a criterion from 1 to 6.
     Mark {
@@ -206,50 +197,60 @@ pub enum Line {
         length: u32,
         reason: ReasonLine,
     },
+    /// A compartment from 1, the level in mm, its contents up to there in m³, their centre's x and height in m where
+    /// there is one, and the inertia of their surface in m⁴.
+    Tank {
+        compartment: u32,
+        level: u32,
+        volume: Figure,
+        lcg: Option<Figure>,
+        kg: Option<Figure>,
+        inertia: Figure,
+    },
+    /// Where the ship floats in still water.
+    Float {
+        end: CaseEnd,
+    },
+    /// A station from 0, its x in mm, the shear in t and the bending moment in t·m.
+    Strength {
+        station: u32,
+        x: u32,
+        shear: Figure,
+        bend: Figure,
+    },
+    /// A damage case from 1, a degree of heel, the draft bracket in grid units, and of each side GZ in m and the area
+    /// below GZ in m·rad.
+    FloodedArm {
+        case: u32,
+        degree: u32,
+        d1: i64,
+        d2: i64,
+        port_gz: Figure,
+        port_area: Figure,
+        star_gz: Figure,
+        star_area: Figure,
+    },
+    /// A damage case from 1, the first degree of heel at which too little is left, and what is left there in m³.
+    FloodedShort {
+        case: u32,
+        degree: u32,
+        left: Figure,
+    },
+    /// The first line of a report of limiting heights.
+    LimitsHead,
+    /// A mass in kg, and the greatest height of the centre of gravity found safe, in mm, where there is one.
+    Limit {
+        mass: u64,
+        height: Option<u32>,
+    },
+    /// A mass in kg, the next height of the centre of gravity in mm, and why it isn't safe.
+    Beyond {
+        mass: u64,
+        height: u32,
+        why: LimitLine,
+    },
     /// The number of lines, this one among them.
     End {
         lines: u32,
     },
-}
-
-/// Why bytes have no lines.
-#[derive(Clone, Copy, Debug, PartialEq, Eq)]
-pub enum ReadBack {
-    /// This line, counted from 1, is the first that isn't in the grammar.
-    Bad { line: u32 },
-    /// Memory was refused. It may come in place of any other answer.
-    Memory,
-}
-
-impl From<Memory> for ReadBack {
-    ghost use Rattle.std.specs.Prelude.{◌≡◌};
-    ghost use Rattle.hull_report.specs.declared.line.ReadBack.TheVariants as back;
-
-    ghost from_gives = { λ _ e. e ≡ back.Memory };
-
-    fn from(_: Memory) -> ReadBack {
-        ReadBack::Memory
-    }
-}
-
-impl From<AllocError> for ReadBack {
-    ghost use Rattle.std.specs.Prelude.{◌≡◌};
-    ghost use Rattle.hull_report.specs.declared.line.ReadBack.TheVariants as back;
-
-    ghost from_gives = { λ _ e. e ≡ back.Memory };
-
-    fn from(_: AllocError) -> ReadBack {
-        ReadBack::Memory
-    }
-}
-
-impl<T: Drop> From<AllocFailed<T>> for ReadBack {
-    ghost use Rattle.std.specs.Prelude.{◌≡◌};
-    ghost use Rattle.hull_report.specs.declared.line.ReadBack.TheVariants as back;
-
-    ghost from_gives = { λ _ e. e ≡ back.Memory };
-
-    fn from(_: AllocFailed<T>) -> ReadBack {
-        ReadBack::Memory
-    }
 }

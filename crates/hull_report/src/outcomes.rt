@@ -1,103 +1,13 @@
-// The fields of lines with more than one form: verdicts, damage cases, floodable lengths.
+// The fields of damage cases and floodable lengths.
 ghost use Rattle.std.specs.Prelude.{◌≡◌, IfSome};
 ghost use Rattle.hull_report.specs.Spelling as spelling;
 ghost use Rattle.hull_report.specs.Spelling.{IsLine};
-ghost use Rattle.hull_report.specs.Fields as reading;
+ghost use Rattle.hull_report.specs.Outcomes as reading;
 
-use crate::line::{Call, CaseEnd, Line, ReasonLine, SafeBox, ShownLine};
+use crate::line::{CaseEnd, Line, ReasonLine, SafeBox};
 use crate::words::Words;
 
-#[tactic(auto, unfolding(crate::specs::Fields::verdict_at))]
-pub(crate) fn verdict(words: &mut Words<'_>) -> Option<Line>
-    ensures value { result ≡ reading.verdict_at words.old.rest.now }
-    ensures fits { IfSome result IsLine }
-{
-    Some(Line::Verdict { call: call(words)? })
-}
-
-#[tactic(auto, unfolding(crate::specs::Fields::call_at))]
-fn call(words: &mut Words<'_>) -> Option<Call>
-    ensures value { result ≡ reading.call_at words.old.rest.now }
-    ensures fits { IfSome result (λ c. spelling.AreWords (spelling.call_words c)) }
-{
-    match words.next() {
-        name if name == b"pass".as_slice() => Some(Call::Pass),
-        name if name == b"fail".as_slice() => fail(words),
-        name if name == b"undecided".as_slice() => undecided(words),
-        _ => None,
-    }
-}
-
-#[tactic(auto, unfolding(crate::specs::Fields::fail_at))]
-fn fail(words: &mut Words<'_>) -> Option<Call>
-    ensures value { result ≡ reading.fail_at words.old.rest.now }
-    ensures fits { IfSome result (λ c. spelling.AreWords (spelling.call_words c)) }
-{
-    Some(Call::Fail {
-        criterion: words.criterion()?,
-        shown: shown(words)?,
-    })
-}
-
-#[tactic(auto, unfolding(crate::specs::Fields::undecided_at))]
-fn undecided(words: &mut Words<'_>) -> Option<Call>
-    ensures value { result ≡ reading.undecided_at words.old.rest.now }
-    ensures fits { IfSome result (λ c. spelling.AreWords (spelling.call_words c)) }
-{
-    Some(Call::Undecided {
-        criterion: words.criterion()?,
-        shown: shown(words)?,
-    })
-}
-
-#[tactic(auto, unfolding(crate::specs::Fields::shown_at))]
-fn shown(words: &mut Words<'_>) -> Option<ShownLine>
-    ensures value { result ≡ reading.shown_at words.old.rest.now }
-    ensures fits { IfSome result (λ s. spelling.AreWords (spelling.shown_words s)) }
-{
-    match words.next() {
-        name if name == b"interval".as_slice() => interval(words),
-        name if name == b"pair".as_slice() => pair(words),
-        name if name == b"leak".as_slice() => leak(words),
-        _ => None,
-    }
-}
-
-#[tactic(auto, unfolding(crate::specs::Fields::interval_at))]
-fn interval(words: &mut Words<'_>) -> Option<ShownLine>
-    ensures value { result ≡ reading.interval_at words.old.rest.now }
-    ensures fits { IfSome result (λ s. spelling.AreWords (spelling.shown_words s)) }
-{
-    Some(ShownLine::Interval {
-        degree: words.u32()?,
-        figure: words.figure()?,
-    })
-}
-
-#[tactic(auto, unfolding(crate::specs::Fields::pair_at))]
-fn pair(words: &mut Words<'_>) -> Option<ShownLine>
-    ensures value { result ≡ reading.pair_at words.old.rest.now }
-    ensures fits { IfSome result (λ s. spelling.AreWords (spelling.shown_words s)) }
-{
-    Some(ShownLine::Pair {
-        low: words.u32()?,
-        high: words.u32()?,
-    })
-}
-
-#[tactic(auto, unfolding(crate::specs::Fields::leak_at))]
-fn leak(words: &mut Words<'_>) -> Option<ShownLine>
-    ensures value { result ≡ reading.leak_at words.old.rest.now }
-    ensures fits { IfSome result (λ s. spelling.AreWords (spelling.shown_words s)) }
-{
-    Some(ShownLine::Leak {
-        opening: words.u32()?,
-        degree: words.u32()?,
-        figure: words.figure()?,
-    })
-}
-
-#[tactic(auto, unfolding(crate::specs::Fields::damage_at))]
+#[tactic(auto, unfolding(crate::specs::Outcomes::damage_at))]
 pub(crate) fn damage(words: &mut Words<'_>) -> Option<Line>
     ensures value { result ≡ reading.damage_at words.old.rest.now }
     ensures fits { IfSome result IsLine }
@@ -108,8 +18,8 @@ pub(crate) fn damage(words: &mut Words<'_>) -> Option<Line>
     })
 }
 
-#[tactic(auto, unfolding(crate::specs::Fields::end_at))]
-fn case_end(words: &mut Words<'_>) -> Option<CaseEnd>
+#[tactic(auto, unfolding(crate::specs::Outcomes::end_at))]
+pub(crate) fn case_end(words: &mut Words<'_>) -> Option<CaseEnd>
     ensures value { result ≡ reading.end_at words.old.rest.now }
     ensures fits { IfSome result (λ e. spelling.AreWords (spelling.end_words e)) }
 {
@@ -120,7 +30,7 @@ fn case_end(words: &mut Words<'_>) -> Option<CaseEnd>
     }
 }
 
-#[tactic(auto, unfolding(crate::specs::Fields::unsettled_at))]
+#[tactic(auto, unfolding(crate::specs::Outcomes::unsettled_at))]
 fn unsettled(words: &mut Words<'_>) -> Option<CaseEnd>
     ensures value { result ≡ reading.unsettled_at words.old.rest.now }
     ensures fits { IfSome result (λ e. spelling.AreWords (spelling.end_words e)) }
@@ -131,13 +41,13 @@ fn unsettled(words: &mut Words<'_>) -> Option<CaseEnd>
         });
     }
     match words.next() {
-        side if side == b"fore".as_slice() => Some(CaseEnd::NoStartFore),
-        side if side == b"aft".as_slice() => Some(CaseEnd::NoStartAft),
+        tip if tip == b"fore".as_slice() => Some(CaseEnd::NoStartFore),
+        tip if tip == b"aft".as_slice() => Some(CaseEnd::NoStartAft),
         _ => None,
     }
 }
 
-#[tactic(auto, unfolding(crate::specs::Fields::safe_at))]
+#[tactic(auto, unfolding(crate::specs::Outcomes::safe_at))]
 pub(crate) fn safe(words: &mut Words<'_>) -> Option<Line>
     ensures value { result ≡ reading.safe_at words.old.rest.now }
     ensures fits { IfSome result IsLine }
@@ -148,7 +58,7 @@ pub(crate) fn safe(words: &mut Words<'_>) -> Option<Line>
     })
 }
 
-#[tactic(auto, unfolding(crate::specs::Fields::box_at))]
+#[tactic(auto, unfolding(crate::specs::Outcomes::box_at))]
 fn reach(words: &mut Words<'_>) -> Option<SafeBox>
     ensures value { result ≡ reading.box_at words.old.rest.now }
     ensures fits { spelling.AreWords (spelling.reach_words result) }
@@ -159,7 +69,7 @@ fn reach(words: &mut Words<'_>) -> Option<SafeBox>
     })
 }
 
-#[tactic(auto, unfolding(crate::specs::Fields::next_line_at))]
+#[tactic(auto, unfolding(crate::specs::Outcomes::next_line_at))]
 pub(crate) fn next(words: &mut Words<'_>) -> Option<Line>
     ensures value { result ≡ reading.next_line_at words.old.rest.now }
     ensures fits { IfSome result IsLine }
@@ -171,7 +81,7 @@ pub(crate) fn next(words: &mut Words<'_>) -> Option<Line>
     })
 }
 
-#[tactic(auto, unfolding(crate::specs::Fields::reason_at))]
+#[tactic(auto, unfolding(crate::specs::Outcomes::reason_at))]
 fn reason(words: &mut Words<'_>) -> Option<ReasonLine>
     ensures value { result ≡ reading.reason_at words.old.rest.now }
     ensures fits { IfSome result (λ r. spelling.AreWords (spelling.reason_words r)) }
@@ -186,7 +96,7 @@ fn reason(words: &mut Words<'_>) -> Option<ReasonLine>
     }
 }
 
-#[tactic(auto, unfolding(crate::specs::Fields::over_at))]
+#[tactic(auto, unfolding(crate::specs::Outcomes::over_at))]
 fn over(words: &mut Words<'_>) -> Option<ReasonLine>
     ensures value { result ≡ reading.over_at words.old.rest.now }
     ensures fits { IfSome result (λ r. spelling.AreWords (spelling.reason_words r)) }
@@ -197,7 +107,7 @@ fn over(words: &mut Words<'_>) -> Option<ReasonLine>
     })
 }
 
-#[tactic(auto, unfolding(crate::specs::Fields::touch_at))]
+#[tactic(auto, unfolding(crate::specs::Outcomes::touch_at))]
 fn touch(words: &mut Words<'_>) -> Option<ReasonLine>
     ensures value { result ≡ reading.touch_at words.old.rest.now }
     ensures fits { IfSome result (λ r. spelling.AreWords (spelling.reason_words r)) }

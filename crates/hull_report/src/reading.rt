@@ -1,12 +1,13 @@
 // The lines of a text.
 ghost use Rattle.std.specs.Prelude.{◌≡◌, ◌<◌, ◌^◌, ℕ, List, length, Err, IfOk, option_map};
 ghost use Rattle.hull_report.specs.declared.line.Line.{Line};
-ghost use Rattle.hull_report.specs.declared.line.ReadBack.TheVariants as back;
+ghost use Rattle.hull_report.specs.declared.read_back.ReadBack.TheVariants as back;
 ghost use Rattle.hull_report.specs.Spelling.{AreLines, lines_text};
 ghost use Rattle.hull_report.specs.Answers.{IsFirstBad, Begins, Answers, IsReadAs, IsBadAt};
 
 use crate::fields::line_of;
-use crate::line::{Line, ReadBack};
+use crate::line::Line;
+use crate::read_back::ReadBack;
 use crate::word::cut;
 use crate::writing::push_words;
 use exact_fraction::Memory;

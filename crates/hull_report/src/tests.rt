@@ -38,6 +38,7 @@ fn section_text(
 ) -> Result<Vec<u8>, Memory> {
     let lines = [
         Line::Header {
+            version: 1,
             command: Command::Section,
         },
         Line::Hull {
@@ -87,6 +88,7 @@ fn report_of_a_section_has_four_lines(rt: HostRuntime) -> Result<(), Fail> {
         lines.as_slice(),
         [
             Line::Header {
+                version: 1,
                 command: Command::Section,
             },
             Line::Hull {

@@ -3,8 +3,14 @@
 ghost use Rattle.std.specs.Prelude.{◌≡◌, ◌≤◌, option_map, IfSome};
 ghost use Rattle.hull_report.specs.Reading as reading;
 
-use crate::line::{Command, Finding};
+use crate::names::{Command, Finding, SideLine};
 use outward_interval::Figure;
+
+/// The greatest version.
+const VERSIONS: u32 = 2;
+
+/// The number of criteria.
+const CRITERIA: u32 = 6;
 
 /// What stands before the first `separator`, and what stands after it.
 pub(crate) fn cut(bytes: &[u8], separator: u8) -> Option<(&[u8], &[u8])>
@@ -93,6 +99,27 @@ fn ordered(lo: i128, hi: i128) -> Option<Figure>
     }
 }
 
+/// A number from 1 to the most.
+fn up_to(most: u32, number: u128) -> Option<u32>
+    ensures value { result ≡ reading.up_to most number }
+    ensures range { IfSome result (λ n. (1 ≤ n) × (n ≤ most)) }
+{
+    if 1 <= number && number <= u128::from(most) {
+        Some(number as u32)
+    } else {
+        None
+    }
+}
+
+/// The version, 1 or 2.
+#[tactic(auto, unfolding(crate::specs::Reading::version))]
+pub(crate) fn version(word: &[u8]) -> Option<u32>
+    ensures value { result ≡ reading.version word.now }
+    ensures range { IfSome result (λ n. (1 ≤ n) × (n ≤ 2)) }
+{
+    up_to(VERSIONS, unsigned(word)?)
+}
+
 /// The criterion from 1 to 6 behind its `C`.
 #[tactic(auto, unfolding(crate::specs::Reading::criterion))]
 pub(crate) fn criterion(word: &[u8]) -> Option<u32>
@@ -100,12 +127,7 @@ pub(crate) fn criterion(word: &[u8]) -> Option<u32>
     ensures range { IfSome result (λ n. (1 ≤ n) × (n ≤ 6)) }
 {
     let (_, digits) = cut(word, b'C')?;
-    let number = unsigned(digits)?;
-    if 1 <= number && number <= 6 {
-        Some(number as u32)
-    } else {
-        None
-    }
+    up_to(CRITERIA, unsigned(digits)?)
 }
 
 /// The command of a name.
@@ -123,6 +145,9 @@ pub(crate) fn command(name: &[u8]) -> Option<Command>
         name if name == b"all".as_slice() => Some(Command::All),
         name if name == b"section".as_slice() => Some(Command::Section),
         name if name == b"make".as_slice() => Some(Command::Make),
+        name if name == b"tanks".as_slice() => Some(Command::Tanks),
+        name if name == b"strength".as_slice() => Some(Command::Strength),
+        name if name == b"flooded".as_slice() => Some(Command::Flooded),
         _ => None,
     }
 }
@@ -136,6 +161,18 @@ pub(crate) fn finding(name: &[u8]) -> Option<Finding>
         name if name == b"holds".as_slice() => Some(Finding::Holds),
         name if name == b"fails".as_slice() => Some(Finding::Fails),
         name if name == b"unsure".as_slice() => Some(Finding::Unsure),
+        _ => None,
+    }
+}
+
+/// The side of a name.
+#[tactic(auto, unfolding(crate::specs::Reading::side))]
+pub(crate) fn side(name: &[u8]) -> Option<SideLine>
+    ensures { result ≡ reading.side name.now }
+{
+    match name {
+        name if name == b"port".as_slice() => Some(SideLine::Port),
+        name if name == b"starboard".as_slice() => Some(SideLine::Starboard),
         _ => None,
     }
 }

@@ -2,9 +2,17 @@
 ghost use Rattle.std.specs.Prelude.{◌≡◌, ◌≤◌, IfSome};
 ghost use Rattle.hull_report.specs.Reading as reading;
 
-use crate::line::{Command, Finding, Sides};
+use crate::line::Sides;
+use crate::names::{Command, Finding, SideLine};
 use crate::word;
 use outward_interval::Figure;
+
+/// GZ and the area below it, on one side.
+#[derive(Clone, Copy)]
+pub(crate) struct Lever {
+    pub(crate) gz: Figure,
+    pub(crate) area: Figure,
+}
 
 /// The words of a line that aren't read yet, parted by spaces.
 #[derive(Clone, Copy)]
@@ -77,6 +85,14 @@ impl<'a> Words<'a> {
         Some(Some(self.figure()?))
     }
 
+    #[tactic(auto, unfolding(crate::specs::Reading::version_at))]
+    pub(crate) fn version(&mut self) -> Option<u32>
+        ensures value { reading.Reads result self.new.rest.now (reading.version_at self.old.rest.now) }
+        ensures range { IfSome result (λ n. (1 ≤ n) × (n ≤ 2)) }
+    {
+        word::version(self.next())
+    }
+
     #[tactic(auto, unfolding(crate::specs::Reading::criterion_at))]
     pub(crate) fn criterion(&mut self) -> Option<u32>
         ensures value { reading.Reads result self.new.rest.now (reading.criterion_at self.old.rest.now) }
@@ -97,6 +113,27 @@ impl<'a> Words<'a> {
         ensures { reading.Reads result self.new.rest.now (reading.finding_at self.old.rest.now) }
     {
         word::finding(self.next())
+    }
+
+    /// The side, where the next word is one; else that word stays.
+    #[tactic(auto, unfolding(crate::specs::Reading::side_at))]
+    pub(crate) fn side(&mut self) -> Option<SideLine>
+        ensures { (result, self.new.rest.now) ≡ reading.side_at self.old.rest.now }
+    {
+        let mut ahead = *self;
+        let side = word::side(ahead.next())?;
+        *self = ahead;
+        Some(side)
+    }
+
+    #[tactic(auto, unfolding(crate::specs::Reading::lever_at))]
+    pub(crate) fn lever(&mut self) -> Option<Lever>
+        ensures { reading.Reads result self.new.rest.now (reading.lever_at self.old.rest.now) }
+    {
+        Some(Lever {
+            gz: self.figure()?,
+            area: self.figure()?,
+        })
     }
 
     /// The four sides of a box.

@@ -1,23 +1,21 @@
 // The text of lines.
 ghost use Rattle.std.specs.Prelude.{◌≡◌, ◌++◌, IfOk, OnOk};
 ghost use Rattle.hull_report.specs.Spelling as spelling;
+ghost use Rattle.hull_report.specs.Groups.{IsFlotation};
 
 use crate::line::Line;
-use crate::spelled::{
-    push_criterion, push_decimals, push_figure, push_figures, push_i64, push_i128, push_u32,
-    push_u64, push_word,
+use crate::spelled_further::push_further;
+use crate::spelled_lines::{
+    push_arm, push_body, push_count, push_cross, push_damage, push_header, push_hull, push_hydro,
+    push_load, push_mark, push_next, push_safe, push_section, push_upright, push_verdict,
 };
-use crate::spelled_outcomes::{push_call, push_end, push_reach, push_reason};
 use exact_fraction::Memory;
 use std::alloc::Global;
 
-/// Decimals of the moment of a section.
-const MOMENT_PLACES: u32 = 9;
-
 /// The text of lines: of each its words, parted by one space, and a line feed.
 ///
-/// Each line must be of the grammar: criteria go from 1 to 6, and in a hydro line no figure is absent but LCB, KB,
-/// LCF, BMT, BML, KMT and MCT. [`lines_of`](crate::lines_of) gives the lines back. Answers [`Memory`] where memory is
+/// Each line must be of the grammar: the version is 1 or 2, criteria go from 1 to 6, and in a hydro line no figure is
+/// absent but LCB, KB, LCF, BMT, BML, KMT and MCT. [`lines_of`](crate::lines_of) gives the lines back. Answers [`Memory`] where memory is
 /// refused.
 pub fn text_of(alloc: Global, lines: &[Line]) -> Result<Vec<u8>, Memory>
     requires { spelling.AreLines lines.now }
@@ -39,118 +37,76 @@ fn push_line(text: &mut Vec<u8>, line: &Line) -> Result<(), Memory>
 }
 
 /// Appends the words of a line, parted by one space.
-#[tactic(auto, unfolding(crate::specs::Spelling::joined, crate::specs::Spelling::spaced))]
 pub(crate) fn push_words(text: &mut Vec<u8>, line: &Line) -> Result<(), Memory>
     ensures { OnOk result (text.new.items ≡ text.old.items ++ spelling.joined (spelling.line_words line.now)) }
 {
     match line {
-        Line::Header { command } => {
-            text.extend_from_slice(b"hullcert")?;
-            push_word(text, b"1")?;
-            push_word(text, command.name())
-        }
-        Line::Hull { stations, points } => {
-            text.extend_from_slice(b"hull")?;
-            push_u32(text, *stations)?;
-            push_u32(text, *points)
-        }
-        Line::Body { six } => {
-            text.extend_from_slice(b"body")?;
-            push_i128(text, six)
-        }
-        Line::Hydro { draft, figures } => {
-            text.extend_from_slice(b"hydro")?;
-            push_u32(text, *draft)?;
-            push_figures(text, figures)
-        }
+        Line::Header { version, command } => push_header(text, *version, command),
+        Line::Hull { stations, points } => push_hull(text, *stations, *points),
+        Line::Body { six } => push_body(text, six),
+        Line::Hydro { draft, figures } => push_hydro(text, *draft, figures),
         Line::Section {
             station,
             x,
             draft,
             area,
             moment,
-        } => {
-            text.extend_from_slice(b"section")?;
-            push_u32(text, *station)?;
-            push_u32(text, *x)?;
-            push_u32(text, *draft)?;
-            push_figure(text, *area)?;
-            push_decimals(text, *moment, MOMENT_PLACES)
-        }
+        } => push_section(text, *station, *x, *draft, area, moment),
+        Line::Mark { criterion, finding } => push_mark(text, *criterion, finding),
+        Line::Verdict { call } => push_verdict(text, call),
+        Line::Damage { case, end } => push_damage(text, *case, end),
+        Line::Safe { centre, reach } => push_safe(text, *centre, reach),
+        Line::Next {
+            centre,
+            length,
+            reason,
+        } => push_next(text, *centre, *length, reason),
+        Line::End { lines } => push_count(text, *lines),
+        Line::Cross { .. }
+        | Line::Load { .. }
+        | Line::Load2 { .. }
+        | Line::Upright { .. }
+        | Line::Arm { .. }
+        | Line::Arm2 { .. } => push_flotation(text, line),
+        _ => push_further(text, line),
+    }
+}
+
+/// Appends the words of a line of drafts, loads and levers.
+fn push_flotation(text: &mut Vec<u8>, line: &Line) -> Result<(), Memory>
+    requires { IsFlotation line.now }
+    ensures { OnOk result (text.new.items ≡ text.old.items ++ spelling.joined (spelling.line_words line.now)) }
+{
+    match line {
         Line::Cross {
             mass,
             degree,
             d1,
             d2,
             kn,
-        } => {
-            text.extend_from_slice(b"cross")?;
-            push_u64(text, *mass)?;
-            push_u32(text, *degree)?;
-            push_i64(text, d1)?;
-            push_i64(text, d2)?;
-            push_figure(text, *kn)
-        }
-        Line::Load { mass, lcg, kg } => {
-            text.extend_from_slice(b"load")?;
-            push_u64(text, *mass)?;
-            push_figure(text, *lcg)?;
-            push_figure(text, *kg)
-        }
-        Line::Upright { d1, d2, kb, bm, gm } => {
-            text.extend_from_slice(b"upright")?;
-            push_i64(text, d1)?;
-            push_i64(text, d2)?;
-            push_figure(text, *kb)?;
-            push_figure(text, *bm)?;
-            push_figure(text, *gm)
-        }
+        } => push_cross(text, *mass, *degree, d1, d2, kn),
+        Line::Load { mass, lcg, kg } => push_load(text, *mass, &[*lcg, *kg]),
+        Line::Load2 { mass, lcg, tcg, kg } => push_load(text, *mass, &[*lcg, *tcg, *kg]),
+        Line::Upright { d1, d2, kb, bm, gm } => push_upright(text, d1, d2, &[*kb, *bm, *gm]),
         Line::Arm {
             degree,
             d1,
             d2,
             gz,
             area,
+        } => push_arm(text, *degree, d1, d2, &[*gz, *area]),
+        Line::Arm2 {
+            degree,
+            d1,
+            d2,
+            port_gz,
+            port_area,
+            star_gz,
+            star_area,
         } => {
-            text.extend_from_slice(b"arm")?;
-            push_u32(text, *degree)?;
-            push_i64(text, d1)?;
-            push_i64(text, d2)?;
-            push_figure(text, *gz)?;
-            push_figure(text, *area)
+            let levers = [*port_gz, *port_area, *star_gz, *star_area];
+            push_arm(text, *degree, d1, d2, &levers)
         }
-        Line::Mark { criterion, finding } => {
-            text.extend_from_slice(b"mark")?;
-            push_criterion(text, *criterion)?;
-            push_word(text, finding.name())
-        }
-        Line::Verdict { call } => {
-            text.extend_from_slice(b"verdict")?;
-            push_call(text, call)
-        }
-        Line::Damage { case, end } => {
-            text.extend_from_slice(b"damage")?;
-            push_u32(text, *case)?;
-            push_end(text, end)
-        }
-        Line::Safe { centre, reach } => {
-            text.extend_from_slice(b"safe")?;
-            push_u32(text, *centre)?;
-            push_reach(text, reach)
-        }
-        Line::Next {
-            centre,
-            length,
-            reason,
-        } => {
-            text.extend_from_slice(b"next")?;
-            push_u32(text, *centre)?;
-            push_u32(text, *length)?;
-            push_reason(text, reason)
-        }
-        Line::End { lines } => {
-            text.extend_from_slice(b"end")?;
-            push_u32(text, *lines)
-        }
+        _ => unreachable!(),
     }
 }
