@@ -1,4 +1,5 @@
 pub mod QuotientEnds
+pub mod SmallEnds
 pub mod LongDivision
 pub mod CoarseEnds
 pub mod MomentEnds
@@ -6,3 +7,15 @@ pub mod Inverses
 pub mod FigureLaws
 pub mod RowQuotients
 pub mod RowInertia
+pub mod RowWidths
+pub mod FigureWidths
+pub mod CentreCut
+pub mod ProductWidths
+pub mod InertiaWidths
+pub mod TrimWidths
+pub mod VolumeMove
+pub mod HullExtent
+pub mod RowNarrow
+pub mod LidArea
+pub mod PlaneWidths
+pub mod HullLimits

@@ -57,8 +57,8 @@ beside : (u k : ℕ) (d : ℤ) → pos 1 ≤ℤ d → pos u <ℤ (d *ℤ pos k) 
 beside u k (pos d) o h = omega (arith, ints)
 beside u k (negsuc d) o h = absurd (omega (arith, ints))
 
-pub whole_small : (n d q : ℤ) → pos 1 ≤ℤ d → pos (unsigned_abs n) <ℤ (d *ℤ pos (2 ^ 74)) → q ≡ int_div_euclid n d → unsigned_abs q ≤ 2 ^ 74
-whole_small n d q some h e = floor_at_most (2 ^ 74) (unsigned_abs d) n q (beside (unsigned_abs n) (2 ^ 74) d some h) (floor_by_division n d q some e)
+pub whole_small : (n d q : ℤ) → pos 1 ≤ℤ d → pos (unsigned_abs n) <ℤ (d *ℤ pos (2 ^ 94)) → q ≡ int_div_euclid n d → unsigned_abs q ≤ 2 ^ 94
+whole_small n d q some h e = floor_at_most (2 ^ 94) (unsigned_abs d) n q (beside (unsigned_abs n) (2 ^ 94) d some h) (floor_by_division n d q some e)
 
 pub part_small : (rest d part : ℤ) → unsigned_abs rest < unsigned_abs d → IsFloor (rest *ℤ pos 1048576) (unsigned_abs d) part → unsigned_abs part ≤ 2 ^ 20
 part_small rest d part h f = floor_at_most (2 ^ 20) (unsigned_abs d) (rest *ℤ pos 1048576) part (omega (arith, unsigned_abs-mul rest (pos 1048576), h)) f

@@ -53,33 +53,33 @@ by_greatest : (u k : ℕ) (n c d : ℤ) → c ≤ℤ d → pos u <ℤ (c *ℤ po
 by_greatest u k (pos n) c d h l = l
 by_greatest u k (negsuc n) c d h l = later l (le-times k c d h)
 
-pub small_by_least : (divisor : Span 20) (a n by : ℤ) → n ≡ a → by ≡ least_divisor n divisor.lo divisor.hi → pos (unsigned_abs a) <ℤ (divisor.lo *ℤ pos (2 ^ 74))
-    → pos (unsigned_abs n) <ℤ (by *ℤ pos (2 ^ 74))
-small_by_least divisor a n by e f h = subst (λ (z : ℤ). pos (unsigned_abs n) <ℤ (z *ℤ pos (2 ^ 74))) (sym f)
-    (by_least (unsigned_abs n) (2 ^ 74) n divisor.lo divisor.hi divisor.ordered (subst (λ (z : ℤ). pos (unsigned_abs z) <ℤ (divisor.lo *ℤ pos (2 ^ 74))) (sym e) h))
+pub small_by_least : (divisor : Span 20) (a n by : ℤ) → n ≡ a → by ≡ least_divisor n divisor.lo divisor.hi → pos (unsigned_abs a) <ℤ (divisor.lo *ℤ pos (2 ^ 94))
+    → pos (unsigned_abs n) <ℤ (by *ℤ pos (2 ^ 94))
+small_by_least divisor a n by e f h = subst (λ (z : ℤ). pos (unsigned_abs n) <ℤ (z *ℤ pos (2 ^ 94))) (sym f)
+    (by_least (unsigned_abs n) (2 ^ 94) n divisor.lo divisor.hi divisor.ordered (subst (λ (z : ℤ). pos (unsigned_abs z) <ℤ (divisor.lo *ℤ pos (2 ^ 94))) (sym e) h))
 
-pub small_by_greatest : (divisor : Span 20) (a n by : ℤ) → n ≡ a → by ≡ greatest_divisor n divisor.lo divisor.hi → pos (unsigned_abs a) <ℤ (divisor.lo *ℤ pos (2 ^ 74))
-    → pos (unsigned_abs n) <ℤ (by *ℤ pos (2 ^ 74))
-small_by_greatest divisor a n by e f h = subst (λ (z : ℤ). pos (unsigned_abs n) <ℤ (z *ℤ pos (2 ^ 74))) (sym f)
-    (by_greatest (unsigned_abs n) (2 ^ 74) n divisor.lo divisor.hi divisor.ordered (subst (λ (z : ℤ). pos (unsigned_abs z) <ℤ (divisor.lo *ℤ pos (2 ^ 74))) (sym e) h))
+pub small_by_greatest : (divisor : Span 20) (a n by : ℤ) → n ≡ a → by ≡ greatest_divisor n divisor.lo divisor.hi → pos (unsigned_abs a) <ℤ (divisor.lo *ℤ pos (2 ^ 94))
+    → pos (unsigned_abs n) <ℤ (by *ℤ pos (2 ^ 94))
+small_by_greatest divisor a n by e f h = subst (λ (z : ℤ). pos (unsigned_abs n) <ℤ (z *ℤ pos (2 ^ 94))) (sym f)
+    (by_greatest (unsigned_abs n) (2 ^ 94) n divisor.lo divisor.hi divisor.ordered (subst (λ (z : ℤ). pos (unsigned_abs z) <ℤ (divisor.lo *ℤ pos (2 ^ 94))) (sym e) h))
 
 -- it is small by a greater reach too
-pub small_within : (reach : ℕ) (divisor moment : Span 20) → reach ≤ 74 → pos 1 ≤ℤ divisor.lo → IsSmallBeside reach divisor moment → IsSmallBeside 74 divisor moment
+pub small_within : (reach : ℕ) (divisor moment : Span 20) → reach ≤ 94 → pos 1 ≤ℤ divisor.lo → IsSmallBeside reach divisor moment → IsSmallBeside 94 divisor moment
 small_within reach divisor moment few some h = record { low = wider divisor.lo some h.low; high = wider divisor.lo some h.high }
   where
     some_base : 1 ≤ 2
     some_base = omega arith
 
-    more : (u c : ℕ) → u < c * 2 ^ reach → u < c * 2 ^ 74
+    more : (u c : ℕ) → u < c * 2 ^ reach → u < c * 2 ^ 94
     more u c l = omega (arith, l, mul-le-mul_left c (pow-le-pow_right some_base few))
 
-    wider : {u : ℕ} (c : ℤ) → pos 1 ≤ℤ c → pos u <ℤ (c *ℤ pos (2 ^ reach)) → pos u <ℤ (c *ℤ pos (2 ^ 74))
+    wider : {u : ℕ} (c : ℤ) → pos 1 ≤ℤ c → pos u <ℤ (c *ℤ pos (2 ^ reach)) → pos u <ℤ (c *ℤ pos (2 ^ 94))
     wider {u} (pos c) o l = into (more u c (out l))
       where
         out : pos u <ℤ (pos c *ℤ pos (2 ^ reach)) → u < c * 2 ^ reach
         out l = omega (arith, ints)
 
-        into : u < c * 2 ^ 74 → pos u <ℤ (pos c *ℤ pos (2 ^ 74))
+        into : u < c * 2 ^ 94 → pos u <ℤ (pos c *ℤ pos (2 ^ 94))
         into l = omega (arith, ints)
     wider (negsuc c) o l = absurd (omega (arith, ints))
 

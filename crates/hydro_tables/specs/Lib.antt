@@ -1,3 +1,5 @@
 pub mod Bounds
+pub mod Extent
 pub mod Figures
 pub mod Row
+pub mod Widths

@@ -5,7 +5,11 @@ ghost use Rattle.exact_algebra.proofs.Span.{ContainsFraction};
 ghost use Rattle.exact_algebra.proofs.Whole.{whole};
 ghost use Rattle.flux_moments.specs.Limits.{EndsAtMost};
 ghost use Rattle.outward_interval.specs.Ends.{EndsBelow};
+ghost use Rattle.outward_interval.specs.Widths.{IsNear, IsNarrow};
 ghost use Rattle.hydro_tables.specs.Bounds.{AreLidEnds};
+ghost use Rattle.hydro_tables.specs.Extent.{product_width};
+ghost use Rattle.hydro_tables.specs.Figures.{◌over◌};
+ghost use Rattle.hydro_tables.specs.Widths.{IsWithin, width_of};
 
 use flux_moments::LidSums;
 use hull_model::Water;
@@ -32,6 +36,8 @@ pub(crate) fn longitudinal(lid: &LidSums, lcf: &Option<Span<20>>) -> Span<20>
     requires lcf { IfSome lcf.now (λ s. EndsAtMost (2 ^ 40) s.lo s.hi) }
     ensures contains { IfSome lcf.now (λ s. (x xx c : Fraction) → ContainsFraction 20 lid.now.sx.lo lid.now.sx.hi x → ContainsFraction 20 lid.now.sxx.lo lid.now.sxx.hi xx → ContainsFraction 20 s.lo s.hi c → ContainsFraction 20 result.lo result.hi (xx ⊖ c ⊗ x)) }
     ensures ends { EndsBelow 115 result.lo result.hi }
+    ensures narrow { IfSome lcf.now (λ s. (m n w v y : Fraction) → IsNear 20 m s.lo s.hi → IsNear 20 n lid.now.sx.lo lid.now.sx.hi → IsNarrow 20 w s.lo s.hi → IsNarrow 20 v lid.now.sx.lo lid.now.sx.hi → IsNarrow 20 y lid.now.sxx.lo lid.now.sxx.hi → IsNarrow 20 (y ⊕ product_width m n w v) result.lo result.hi) }
+    ensures none { IsNone lcf.now → result ≡ lid.now.sxx }
 {
     match lcf {
         Some(lcf) => lid.sxx - product(*lcf, lid.sx),
@@ -45,6 +51,7 @@ fn product(length: Span<20>, sx: Span<20>) -> Span<20>
     requires sx { EndsBelow 93 sx.lo sx.hi }
     ensures contains { (c x : Fraction) → ContainsFraction 20 length.lo length.hi c → ContainsFraction 20 sx.lo sx.hi x → ContainsFraction 20 result.lo result.hi (c ⊗ x) }
     ensures ends { EndsAtMost (2 ^ 114) result.lo result.hi }
+    ensures narrow { (m n w v : Fraction) → IsNear 20 m length.lo length.hi → IsNear 20 n sx.lo sx.hi → IsNarrow 20 w length.lo length.hi → IsNarrow 20 v sx.lo sx.hi → IsNarrow 20 (product_width m n w v) result.lo result.hi }
 {
     if has_room(sx) {
         return length.scaled_by(sx);
@@ -54,7 +61,7 @@ fn product(length: Span<20>, sx: Span<20>) -> Span<20>
 }
 
 fn has_room(sx: Span<20>) -> bool
-    ensures { IsTrue result → EndsBelow 83 sx.lo sx.hi }
+    ensures { IsTrue result ↔ EndsBelow 83 sx.lo sx.hi }
 {
     sx.lo().unsigned_abs() < ROOM && sx.hi().unsigned_abs() < ROOM
 }
@@ -64,6 +71,7 @@ pub(crate) fn displacement_of(volume: Span<20>, water: &Water) -> Span<20>
     requires { EndsBelow 96 volume.lo volume.hi }
     ensures contains { (v : Fraction) → ContainsFraction 20 volume.lo volume.hi v → ContainsFraction 20 result.lo result.hi (v ⊗ whole (pos water.now.density) ⊗ inverse (whole (pos (10 ^ 12)))) }
     ensures ends { EndsBelow 96 result.lo result.hi }
+    ensures narrow { IsWithin (width_of volume ⊗ (whole (pos water.now.density) over whole (pos (10 ^ 12)))) result }
 {
     volume
         .times_whole(i128::from(water.density))
@@ -75,6 +83,7 @@ pub(crate) fn tpc_of(area: Span<20>, water: &Water) -> Span<20>
     requires { EndsBelow 96 area.lo area.hi }
     ensures contains { (a : Fraction) → ContainsFraction 20 area.lo area.hi a → ContainsFraction 20 result.lo result.hi (a ⊗ whole (pos water.now.density) ⊗ inverse (whole (pos (10 ^ 11)))) }
     ensures ends { EndsBelow 96 result.lo result.hi }
+    ensures narrow { IsWithin (width_of area ⊗ (whole (pos water.now.density) over whole (pos (10 ^ 11)))) result }
 {
     area.times_whole(i128::from(water.density))
         .over_whole(AREA_IN_TONNES)
@@ -88,6 +97,7 @@ pub(crate) fn mct_of(inertia: Span<20>, bml: &Option<Span<20>>, water: &Water) -
     ensures none { IsNone result ↔ IsNone bml.now }
     ensures contains { IfSome result (λ s. (i : Fraction) → ContainsFraction 20 inertia.lo inertia.hi i → ContainsFraction 20 s.lo s.hi (i ⊗ whole (pos water.now.density) ⊗ inverse (whole (pos (10 ^ 14 * water.now.length_bp))))) }
     ensures ends { IfSome result (λ s. EndsBelow 96 s.lo s.hi) }
+    ensures narrow { IfSome result (λ s. IsWithin (width_of inertia ⊗ (whole (pos water.now.density) over whole (pos (10 ^ 14 * water.now.length_bp)))) s) }
 {
     match bml {
         Some(_) => {
@@ -106,6 +116,7 @@ pub(crate) fn sum_of(one: &Option<Span<20>>, other: &Option<Span<20>>) -> Option
     ensures none { IsNone result ↔ (IsNone one.now ⊎ IsNone other.now) }
     ensures contains { IfSome result (λ s. (x y : Fraction) → IfSome one.now (λ a. ContainsFraction 20 a.lo a.hi x) → IfSome other.now (λ b. ContainsFraction 20 b.lo b.hi y) → ContainsFraction 20 s.lo s.hi (x ⊕ y)) }
     ensures ends { IfSome result (λ s. EndsBelow 96 s.lo s.hi) }
+    ensures narrow { IfSome one.now (λ a. IfSome other.now (λ b. IfSome result (λ s. IsWithin (width_of a ⊕ width_of b) s))) }
 {
     match (one, other) {
         (Some(one), Some(other)) => Some(*one + *other),

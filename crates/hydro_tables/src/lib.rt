@@ -1,6 +1,7 @@
 //! Hydrostatic tables: what a hull displaces at an upright draft, and how stiff it is there.
 #![tactic(auto)]
 
+mod centre;
 mod divisor;
 mod figures;
 mod long_division;

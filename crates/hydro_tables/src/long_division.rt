@@ -11,11 +11,11 @@ use outward_interval::Span;
 /// Units of a span in one.
 const UNITS: i128 = 1 << 20;
 
-/// The least span of all quotients, where none reaches 2^74.
+/// The least span of all quotients, where none reaches 2^94.
 pub(crate) fn over(moment: Span<20>, divisor: Span<20>) -> Span<20>
     requires divisor { pos 1 ≤ℤ divisor.lo }
     requires size { EndsBelow 96 divisor.lo divisor.hi }
-    requires small { IsSmallBeside 74 divisor moment }
+    requires small { IsSmallBeside 94 divisor moment }
     ensures { AreQuotientEnds 20 moment.lo moment.hi divisor.lo divisor.hi result.lo result.hi }
 {
     let (from, to) = ends_over(moment, divisor);
@@ -28,7 +28,7 @@ pub(crate) fn over(moment: Span<20>, divisor: Span<20>) -> Span<20>
 fn ends_over(moment: Span<20>, divisor: Span<20>) -> (i128, i128)
     requires divisor { pos 1 ≤ℤ divisor.lo }
     requires size { EndsBelow 96 divisor.lo divisor.hi }
-    requires small { IsSmallBeside 74 divisor moment }
+    requires small { IsSmallBeside 94 divisor moment }
     ensures ends { AreQuotientEnds 20 moment.lo moment.hi divisor.lo divisor.hi result.0 result.1 }
     ensures low { MagnitudeBelow 126 result.0 }
     ensures high { MagnitudeBelow 126 result.1 }
@@ -52,11 +52,11 @@ fn divisor_of_greatest(n: i128, divisor: Span<20>) -> i128
     if n < 0 { divisor.hi() } else { divisor.lo() }
 }
 
-// The floor of n · 2^20 / d, where n / d is below 2^74 in magnitude.
+// The floor of n · 2^20 / d, where n / d is below 2^94 in magnitude.
 fn floor_of_quotient(n: i128, d: i128) -> i128
     requires divisor { pos 1 ≤ℤ d }
     requires size { MagnitudeBelow 96 d }
-    requires small { pos (unsigned_abs n) <ℤ (d *ℤ pos (2 ^ 74)) }
+    requires small { pos (unsigned_abs n) <ℤ (d *ℤ pos (2 ^ 94)) }
     ensures floor { IsFloor (n *ℤ pos (2 ^ 20)) (unsigned_abs d) result }
     ensures size { MagnitudeBelow 126 result }
 {
@@ -65,12 +65,12 @@ fn floor_of_quotient(n: i128, d: i128) -> i128
     joined(whole, part_of(rest, d))
 }
 
-// The ceiling of n · 2^20 / d, where n / d is below 2^74 in magnitude.
+// The ceiling of n · 2^20 / d, where n / d is below 2^94 in magnitude.
 fn ceiling_of_quotient(n: i128, d: i128) -> i128
     requires divisor { pos 1 ≤ℤ d }
     requires size { MagnitudeBelow 96 d }
     requires number { MagnitudeBelow 126 n }
-    requires small { pos (unsigned_abs n) <ℤ (d *ℤ pos (2 ^ 74)) }
+    requires small { pos (unsigned_abs n) <ℤ (d *ℤ pos (2 ^ 94)) }
     ensures ceiling { IsCeiling (n *ℤ pos (2 ^ 20)) (unsigned_abs d) result }
     ensures size { MagnitudeBelow 126 result }
 {
@@ -89,7 +89,7 @@ fn part_of(rest: i128, d: i128) -> i128
 }
 
 fn joined(whole: i128, part: i128) -> i128
-    requires whole { unsigned_abs whole ≤ 2 ^ 74 }
+    requires whole { unsigned_abs whole ≤ 2 ^ 94 }
     requires part { unsigned_abs part ≤ 2 ^ 20 }
     ensures value { result ≡ (whole *ℤ pos (2 ^ 20)) +ℤ part }
     ensures size { MagnitudeBelow 126 result }
