@@ -13,6 +13,7 @@ pub mod Measured
 pub mod MeanWidths
 pub mod DepthEnds
 pub mod BoxWidths
+pub mod PlaceLevels
 pub mod PartWidths
 pub mod ColumnWidths
 pub mod FaceWidths

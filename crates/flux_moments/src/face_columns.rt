@@ -19,15 +19,15 @@ ghost use Rattle.flux_moments.specs.Planes.{IsIn, cosine, sine};
 ghost use Rattle.flux_moments.specs.Wets.{AreEndsAtMost, AreColumnEnds};
 ghost use Rattle.flux_moments.specs.Sizes.{BoxSize, HasSize, Reaches, spread, doubled_area, column_width, product_width, volume_part};
 
-use crate::corner::{Corner, Way, depth_of, times_cosine, times_sine};
-use crate::{PlaneBox, Wet};
+use crate::corner::{Corner, depth_of, times_cosine, times_sine};
+use crate::{PlaneBox, ShipLength, Wet};
 use hull_model::Face;
 use outward_interval::Span;
 use plane_clip::wet_depths;
 
 /// The integrals over the columns between the wet part of a face and the waterplane, each with the sign that it has in
 /// the sum over a boundary: twice the volume and the integrals of x and of the side, four times that of the height.
-pub(crate) fn columns(face: &Face, planes: &PlaneBox, way: Way) -> Wet
+pub(crate) fn columns(face: &Face, planes: &PlaneBox, way: ShipLength) -> Wet
     requires face { IsFace face.now }
     requires between { AllByRecursion (λ n. (way.first ≤ℤ n.x) × (n.x ≤ℤ way.last)) face.now.p }
     ensures ends { AreColumnEnds 1 result }
@@ -45,7 +45,7 @@ pub(crate) fn columns(face: &Face, planes: &PlaneBox, way: Way) -> Wet
 }
 
 /// Twice the volume of the column between the wet part of a face and the waterplane, with its sign.
-pub(crate) fn volume_column(face: &Face, planes: &PlaneBox, way: Way) -> Span<20>
+pub(crate) fn volume_column(face: &Face, planes: &PlaneBox, way: ShipLength) -> Span<20>
     requires face { IsFace face.now }
     requires between { AllByRecursion (λ n. (way.first ≤ℤ n.x) × (n.x ≤ℤ way.last)) face.now.p }
     ensures ends { EndsAtMost (7 * 2 ^ 75) result.lo result.hi }

@@ -1,6 +1,7 @@
 //! The hull below a waterplane: its volume and moments, enclosed for all planes of a box.
 #![tactic(auto)]
 
+mod box_levels;
 mod corner;
 mod face_columns;
 mod lid_sums;
@@ -12,6 +13,7 @@ mod tests;
 mod totals;
 mod wet;
 
+pub use box_levels::{ShipLength, trimmed_levels_at};
 pub use lid_sums::{LidSums, lid};
 pub use plane_box::PlaneBox;
 pub use sums::{measure, volume_below};

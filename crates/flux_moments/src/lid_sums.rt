@@ -23,9 +23,9 @@ ghost use Rattle.flux_moments.specs.Planes.{IsIn};
 ghost use Rattle.flux_moments.specs.Sizes.{IsLevelBox};
 ghost use Rattle.flux_moments.specs.Widths.{lid_bound};
 
-use crate::PlaneBox;
-use crate::corner::{Way, depth_of};
+use crate::corner::depth_of;
 use crate::sums::nothing;
+use crate::{PlaneBox, ShipLength};
 use hull_model::Face;
 use hull_polyhedron::Faces;
 use outward_interval::Span;
@@ -68,7 +68,7 @@ pub fn lid(faces: &Faces, d1: i64, d2: i64) -> LidSums
     ensures syy_width { IsNarrow 20 ((whole faces.now.half_breadth ⊗ whole faces.now.half_breadth) ⊗ lid_bound faces.now d1 d2) result.syy.lo result.syy.hi }
     ensures sxx_width { IsNarrow 20 ((whole faces.now.last_x ⊗ whole faces.now.last_x) ⊗ lid_bound faces.now d1 d2) result.sxx.lo result.sxx.hi }
 {
-    let way = Way {
+    let way = ShipLength {
         first: faces.first_x(),
         last: faces.last_x(),
     };
@@ -94,7 +94,7 @@ fn level_planes(d1: i64, d2: i64) -> PlaneBox
 }
 
 /// Twice the sums over the wet parts of faces, as they are seen from above.
-fn seen_sums(faces: &[Face], planes: &PlaneBox, way: Way) -> LidSums
+fn seen_sums(faces: &[Face], planes: &PlaneBox, way: ShipLength) -> LidSums
     requires limits { AllByRecursion IsFace faces.now }
     requires between { LieBetween way.first way.last faces.now }
     requires few { length faces.now < 2 ^ 14 }
@@ -130,7 +130,7 @@ fn seen_sums(faces: &[Face], planes: &PlaneBox, way: Way) -> LidSums
 
 /// Twice the integrals over the wet part of a face as it is seen from above, each above 0 where the face points
 /// downwards.
-fn seen_part(face: &Face, planes: &PlaneBox, way: Way) -> LidSums
+fn seen_part(face: &Face, planes: &PlaneBox, way: ShipLength) -> LidSums
     requires face { IsFace face.now }
     requires between { AllByRecursion (λ n. (way.first ≤ℤ n.x) × (n.x ≤ℤ way.last)) face.now.p }
     ensures area { (at : Fraction) → IsIn planes.now (upright at) → ContainsFraction 20 result.area.lo result.area.hi (lid_part at way.first way.last (λ p. one) (λ p. one) face.now ⊗ whole (pos 2)) }

@@ -18,16 +18,17 @@ ghost use Rattle.flux_moments.specs.PartSizes.{part_area, ArePartWidths};
 ghost use Rattle.flux_moments.specs.Sizes.{BoxSize, HasSize, spread, IsCornerSize};
 ghost use Rattle.flux_moments.specs.Wets.{AreColumnEnds};
 
-use crate::corner::{Corner, Way, levels_at};
+use crate::box_levels::levels_at;
+use crate::corner::Corner;
 use crate::face_columns::columns_at;
-use crate::{PlaneBox, Wet};
+use crate::{PlaneBox, ShipLength, Wet};
 use angle_bounds::Bracket;
 use outward_interval::Span;
 use plane_clip::{Part, PartCorner};
 
 /// The integrals over the columns between the wet part of a part of a face and the waterplane, as those of a face: twice
 /// the volume and the integrals of x and of the side, four times that of the height.
-pub(crate) fn part_columns(part: &Part, planes: &PlaneBox, way: Way) -> Wet
+pub(crate) fn part_columns(part: &Part, planes: &PlaneBox, way: ShipLength) -> Wet
     requires { IsPartWithin way.first way.last part.now }
     ensures ends { AreColumnEnds 1 result }
     ensures volume { (plane : Waterplane) (share : Fraction) (t : Triangle Position) → IsIn planes.now plane → HoldsShare part.now share t → ContainsFraction 20 result.volume.lo result.volume.hi ((column plane way.first way.last (λ p. one) t ⊗ share) ⊗ whole (pos 2)) }
@@ -42,7 +43,7 @@ pub(crate) fn part_columns(part: &Part, planes: &PlaneBox, way: Way) -> Wet
     columns_at(&first, &second, &third, factor_of(part, &planes.bracket))
 }
 
-fn corner_of(corner: &PartCorner, planes: &PlaneBox, way: Way) -> Corner
+fn corner_of(corner: &PartCorner, planes: &PlaneBox, way: ShipLength) -> Corner
     requires { IsPlaced way.first way.last corner.now.x }
     ensures x { result.x ≡ corner.now.x }
     ensures depth { (plane : Waterplane) (p : Position) → IsIn planes.now plane → HoldsCorner corner.now p → ContainsFraction 20 result.depth.lo result.depth.hi (depth plane way.first way.last p) }

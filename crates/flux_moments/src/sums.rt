@@ -23,9 +23,8 @@ ghost use Rattle.flux_moments.specs.Wets.{AllFields, AreColumnEnds};
 ghost use Rattle.flux_moments.specs.Sizes.{BoxSize, AreReached, spread, doubled_area, volume_part};
 ghost use Rattle.flux_moments.specs.Widths.{reach_of, volume_bound};
 
-use crate::corner::Way;
 use crate::face_columns::{columns, volume_column};
-use crate::{PlaneBox, Wet};
+use crate::{PlaneBox, ShipLength, Wet};
 use hull_model::Face;
 use hull_polyhedron::Faces;
 use outward_interval::Span;
@@ -57,7 +56,7 @@ pub fn measure(faces: &Faces, planes: &PlaneBox) -> Wet
     ensures mv_width { IsNarrow 20 (reach_of faces.now planes.now ⊗ volume_bound faces.now planes.now) result.mv.lo result.mv.hi }
     ensures mu_width { IsNarrow 20 (reach_of faces.now planes.now ⊗ volume_bound faces.now planes.now) result.mu.lo result.mu.hi }
 {
-    let way = Way {
+    let way = ShipLength {
         first: faces.first_x(),
         last: faces.last_x(),
     };
@@ -77,7 +76,7 @@ pub fn volume_below(faces: &Faces, planes: &PlaneBox) -> Span<20>
     ensures width { IsNarrow 20 (volume_bound faces.now planes.now) result.lo result.hi }
     ensures volume { (stations : List Station) → IsHull stations → AreFacesOf stations faces.now → (plane : Waterplane) → IsIn planes.now plane → ContainsFraction 20 result.lo result.hi (submerged_volume plane stations) }
 {
-    let way = Way {
+    let way = ShipLength {
         first: faces.first_x(),
         last: faces.last_x(),
     };
@@ -86,7 +85,7 @@ pub fn volume_below(faces: &Faces, planes: &PlaneBox) -> Span<20>
 }
 
 /// Twice the volume of the columns of faces.
-fn volume_sum(faces: &[Face], planes: &PlaneBox, way: Way) -> Span<20>
+fn volume_sum(faces: &[Face], planes: &PlaneBox, way: ShipLength) -> Span<20>
     requires limits { AllByRecursion IsFace faces.now }
     requires between { LieBetween way.first way.last faces.now }
     requires few { length faces.now < 2 ^ 14 }
@@ -103,7 +102,7 @@ fn volume_sum(faces: &[Face], planes: &PlaneBox, way: Way) -> Span<20>
 
 /// The sums over the columns of faces: twice the volume and the integrals of x and of the side, four times that of the
 /// height.
-fn column_sums(faces: &[Face], planes: &PlaneBox, way: Way) -> Wet
+fn column_sums(faces: &[Face], planes: &PlaneBox, way: ShipLength) -> Wet
     requires limits { AllByRecursion IsFace faces.now }
     requires between { LieBetween way.first way.last faces.now }
     requires few { length faces.now < 2 ^ 14 }

@@ -16,10 +16,9 @@ ghost use Rattle.flux_moments.specs.Sizes.{BoxSize, spread};
 ghost use Rattle.flux_moments.specs.Shared.{Shared, HoldShares, shared_columns};
 ghost use Rattle.flux_moments.specs.Wets.{AllFields, AreColumnEnds};
 
-use crate::corner::Way;
 use crate::part_columns::part_columns;
 use crate::sums::nothing;
-use crate::{PlaneBox, Wet};
+use crate::{PlaneBox, ShipLength, Wet};
 use hull_polyhedron::Faces;
 use plane_clip::Part;
 
@@ -40,7 +39,7 @@ pub fn part_sums(faces: &Faces, parts: &[Part], planes: &PlaneBox) -> Wet
     ensures mv_width { (b : BoxSize) (h t : Fraction) (y z : ℕ) → ArePartsReached planes.now parts.now b h y z → sum_over (λ p. part_height h (spread b h) (part_area p)) parts.now ≼ t ⊗ whole (pos 2) → IsNarrow 20 (t ⊕ units 20 2) result.mv.lo result.mv.hi }
     ensures mu_width { (b : BoxSize) (h t : Fraction) (y z : ℕ) → ArePartsReached planes.now parts.now b h y z → sum_over (λ p. part_height h (spread b h) (part_area p)) parts.now ≼ t ⊗ whole (pos 4) → IsNarrow 20 (t ⊕ units 20 2) result.mu.lo result.mu.hi }
 {
-    let way = Way {
+    let way = ShipLength {
         first: faces.first_x(),
         last: faces.last_x(),
     };
@@ -55,7 +54,7 @@ pub fn part_sums(faces: &Faces, parts: &[Part], planes: &PlaneBox) -> Wet
 
 /// The sums over the columns of parts: twice the volume and the integrals of x and of the side, four times that of the
 /// height.
-fn doubled_sums(parts: &[Part], planes: &PlaneBox, way: Way) -> Wet
+fn doubled_sums(parts: &[Part], planes: &PlaneBox, way: ShipLength) -> Wet
     requires placed { AllByRecursion (IsPartWithin way.first way.last) parts.now }
     requires few { length parts.now < 2 ^ 22 }
     ensures volume { (plane : Waterplane) (ts : List Shared) → IsIn planes.now plane → HoldShares parts.now ts → ContainsFraction 20 result.volume.lo result.volume.hi (shared_columns plane way.first way.last (λ p. one) ts ⊗ whole (pos 2)) }

@@ -4,7 +4,7 @@ use Rattle.std.proofs.lemmas.Int.{ints, to_z-of_z}
 use Rattle.std.specs.Int.{w64, w128}
 use mir.Val.{SFits}
 use Rattle.flux_moments.proofs.Levels.{quotients-span}
-use Rattle.flux_moments.proofs.corner.over_length.Goals as goal
+use Rattle.flux_moments.proofs.box_levels.over_length.Goals as goal
 
 pub unreachable-requires : goal.unreachable-requires
 unreachable-requires c =

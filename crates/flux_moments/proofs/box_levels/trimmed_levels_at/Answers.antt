@@ -3,23 +3,23 @@ use Rattle.hull_model.specs.Body.{IsWithin}
 use Rattle.std.proofs.lemmas.Int.{to_z-of_z}
 use Rattle.std.specs.Int.{w64}
 use mir.Val.{SFits}
-use Rattle.flux_moments.specs.declared.corner.Way.{Way}
+use Rattle.flux_moments.specs.declared.box_levels.ShipLength.{ShipLength}
 use Rattle.flux_moments.specs.declared.plane_box.PlaneBox.{PlaneBox}
 use Rattle.flux_moments.proofs.Levels.{mixed-rises, fits_within, before_within, behind_within, length_is, length_within, size_joined, level_fits}
-use Rattle.flux_moments.proofs.corner.trimmed_levels_at.Goals as goal
+use Rattle.flux_moments.proofs.box_levels.trimmed_levels_at.Goals as goal
 
 -- the place lies between the stations
-places_within : (way : Way) (x : ℤ) → way.first ≤ℤ x → x ≤ℤ way.last → IsWithin (pos 524287) (way.last -ℤ x) × IsWithin (pos 524287) (x -ℤ way.first)
+places_within : (way : ShipLength) (x : ℤ) → way.first ≤ℤ x → x ≤ℤ way.last → IsWithin (pos 524287) (way.last -ℤ x) × IsWithin (pos 524287) (x -ℤ way.first)
 places_within way x from to = (before_within way.first way.last x way.start way.end from to, behind_within way.first way.last x way.start way.end from to)
 
-record PlaceFits (way : Way) (x : ℤ) : Type 0 where
+record PlaceFits (way : ShipLength) (x : ℤ) : Type 0 where
   first : SFits w64 way.first
   last : SFits w64 way.last
   before : SFits w64 (way.last -ℤ x)
   behind : SFits w64 (x -ℤ way.first)
   length : SFits w64 (way.last -ℤ way.first)
 
-place_fits : (way : Way) (x : ℤ) → way.first ≤ℤ x → x ≤ℤ way.last → PlaceFits way x
+place_fits : (way : ShipLength) (x : ℤ) → way.first ≤ℤ x → x ≤ℤ way.last → PlaceFits way x
 place_fits way x from to = record {
   first = fits_within _ way.start;
   last = fits_within _ way.end;

@@ -4,7 +4,7 @@ use Rattle.std.specs.Int.{w64}
 use mir.Val.{SFits}
 use Rattle.hull_model.proofs.Magnitudes.{fits_64}
 use Rattle.plane_clip.proofs.QuotientSizes.{times_size}
-use Rattle.flux_moments.proofs.corner.weighed.Goals as goal
+use Rattle.flux_moments.proofs.box_levels.weighed.Goals as goal
 
 pub returns-clause-small : goal.returns-clause-small
 returns-clause-small c =

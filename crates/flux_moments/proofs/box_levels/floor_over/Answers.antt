@@ -4,7 +4,7 @@ use Rattle.std.specs.Int.{w64}
 use mir.Val.{SFits}
 use Rattle.outward_interval.proofs.Quotients.{floor_by_division}
 use Rattle.plane_clip.proofs.QuotientSizes.{floor-size}
-use Rattle.flux_moments.proofs.corner.floor_over.Goals as goal
+use Rattle.flux_moments.proofs.box_levels.floor_over.Goals as goal
 
 pub returns-clause-floor : goal.returns-clause-floor
 returns-clause-floor c =

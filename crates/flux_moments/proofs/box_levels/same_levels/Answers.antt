@@ -5,7 +5,7 @@ use Rattle.std.specs.Int.{w64, w128}
 use mir.Val.{SFits}
 use Rattle.hull_model.proofs.Magnitudes.{fits_64}
 use Rattle.flux_moments.proofs.Levels.{same_span}
-use Rattle.flux_moments.proofs.corner.same_levels.Goals as goal
+use Rattle.flux_moments.proofs.box_levels.same_levels.Goals as goal
 
 pub unreachable-requires : goal.unreachable-requires
 unreachable-requires c =

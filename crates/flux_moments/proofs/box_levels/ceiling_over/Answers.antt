@@ -4,7 +4,7 @@ use Rattle.std.specs.Int.{w64}
 use mir.Val.{SFits}
 use Rattle.hull_model.proofs.Magnitudes.{fits_64}
 use Rattle.flux_moments.proofs.Levels.{ceiling_opposite}
-use Rattle.flux_moments.proofs.corner.ceiling_over.Goals as goal
+use Rattle.flux_moments.proofs.box_levels.ceiling_over.Goals as goal
 
 pub returns-clause-ceiling : goal.returns-clause-ceiling
 returns-clause-ceiling c =

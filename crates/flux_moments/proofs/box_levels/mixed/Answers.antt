@@ -3,7 +3,7 @@ use Rattle.std.proofs.lemmas.Int.{to_z-of_z}
 use Rattle.std.specs.Int.{w64}
 use mir.Val.{SFits}
 use Rattle.flux_moments.proofs.Levels.{mixed-small, sum-fits, mixed-fits}
-use Rattle.flux_moments.proofs.corner.mixed.Goals as goal
+use Rattle.flux_moments.proofs.box_levels.mixed.Goals as goal
 
 pub overflow_add-result : goal.overflow_add-result
 overflow_add-result c =
