@@ -1,5 +1,5 @@
 -- What is left by spans: that of the whole hull less that of the parts, if there are any.
-use Rattle.std.proofs.Common.{Bool, true, false, ◌≤ℤ◌, ◌==◌, ℕ, zero, suc, ◌+◌, ◌^◌, ◌<◌, unsigned_abs, ℤ, ◌-ℤ◌, ◌≡◌, ◌∙◌, refl, sym, subst, List, [], ◌∷◌, length, ◌≤◌, arith}
+use Rattle.std.proofs.Common.{Bool, true, false, ◌==◌, ℕ, zero, suc, ◌+◌, ◌^◌, ◌<◌, unsigned_abs, ℤ, ◌-ℤ◌, ◌≡◌, ◌∙◌, refl, sym, subst, List, [], ◌∷◌, length, ◌≤◌, arith}
 use Rattle.std.proofs.lemmas.Int.{ints}
 use Rattle.std.proofs.Math.Logic.{∥∥₁_elim}
 use Rattle.exact_algebra.specs.Expression.{var, number, ◌:-◌}
@@ -48,6 +48,3 @@ not_empty b (suc m) n e f g = omega (arith, g)
 -- a fact with one proof at most that holds by what a flooded hull keeps of its parts
 pub by-kept : {A P Q : Type 0} → IsProp A → ∥ P ∥₁ → ∥ Q ∥₁ → (P → Q → A) → A
 by-kept prop p q f = ∥∥₁_elim p prop (λ x. ∥∥₁_elim q prop (f x))
-
-pub order_same : (n : ℤ) → n ≤ℤ n
-order_same n = omega (arith, ints)

@@ -1,5 +1,5 @@
--- The spans of levels and heights at upright planes.
-use Rattle.std.proofs.Common.{◌≡◌, ◌∙◌, refl, sym, ap, ap₂, subst, [], ◌∷◌, ℕ, suc, ◌+◌, ◌*◌, ◌^◌, ◌<◌, ℤ, pos, ◌-ℤ◌, ◌*ℤ◌, ◌≤ℤ◌, unsigned_abs, arith}
+-- The spans of heights at upright planes, and the levels that are known.
+use Rattle.std.proofs.Common.{◌≡◌, ◌∙◌, refl, sym, ap, ap₂, subst, [], ◌∷◌, suc, ◌+◌, ◌*◌, ◌^◌, ◌<◌, ℤ, pos, ◌*ℤ◌, unsigned_abs, arith}
 use Rattle.std.proofs.lemmas.Int.{ints}
 use Rattle.exact_algebra.specs.Expression.{var, unit, number, ◌:+◌, ◌:-◌, ◌:*◌}
 use Rattle.exact_algebra.proofs.Fraction.{Fraction, nought, one, ◌⊕◌, ◌⊗◌, fractions, fraction_ring}
@@ -9,17 +9,16 @@ use Rattle.exact_algebra.proofs.Ring.{ring}
 use Rattle.exact_algebra.proofs.Span.{ContainsFraction, in_units, positive-unit, contains_whole}
 use Rattle.exact_algebra.proofs.Whole.{whole, whole-nought, whole-mul, nonnegative-whole}
 use Rattle.hull_model.specs.declared.node.Node.{Node}
-use Rattle.hull_model.specs.Waterplane.{Waterplane, position_of, height, level_at}
+use Rattle.hull_model.specs.Waterplane.{Waterplane, position_of, height}
 use Rattle.outward_interval.specs.Widths.{units, IsNarrow, IsNear}
 use Rattle.outward_interval.proofs.Narrow.{nonnegative-units, near-from}
 use Rattle.flux_moments.specs.Planes.{IsIn, AreLevelEnds, cosine, sine}
 use Rattle.flux_moments.specs.Sizes.{BoxSize, HasSize, distance}
+use Rattle.flux_moments.specs.declared.box_levels.ShipLength.{ShipLength}
 use Rattle.flux_moments.specs.declared.plane_box.PlaneBox.{PlaneBox}
-use Rattle.flux_moments.proofs.BoxWidths.{level-narrow, level-near, nonnegative_turn}
+use Rattle.flux_moments.proofs.BoxWidths.{nonnegative_turn}
 use Rattle.flux_moments.proofs.Heights.{cosine_contained, sine_contained, height_is}
-use Rattle.flux_moments.proofs.Levels.{before_within, behind_within, length_some, length_same, level_encloses}
 use Rattle.compartment_loss.specs.declared.upright.Known.{Known}
-use Rattle.compartment_loss.specs.declared.way.Way.{Way}
 use Rattle.compartment_loss.specs.Upright.{IsUpright}
 
 -- ---- the direction
@@ -63,33 +62,7 @@ height_near n {lo} {hi} e = near-from lo hi ((unsigned_abs n.z + unsigned_abs n.
     less : (z y lo : ℤ) → lo ≡ z *ℤ pos (2 ^ 20) → unsigned_abs lo < suc ((unsigned_abs z + unsigned_abs y) * 2 ^ 20)
     less z y lo e = omega (arith, ints, e)
 
--- ---- levels
-module _ (planes : PlaneBox) (way : Way) (x lo hi : ℤ) (from : way.first ≤ℤ x) (to : x ≤ℤ way.last) (ends : AreLevelEnds planes way.first way.last x lo hi) where
-  abbrev length : ℕ
-  length = unsigned_abs (way.last -ℤ way.first)
-
-  before : pos 0 ≤ℤ (way.last -ℤ x)
-  before = (before_within way.first way.last x way.start way.end from to).0
-
-  behind : pos 0 ≤ℤ (x -ℤ way.first)
-  behind = (behind_within way.first way.last x way.start way.end from to).0
-
-  some : 0 < length
-  some = length_some way.first way.last way.forwards
-
-  same : pos length ≡ way.last -ℤ way.first
-  same = length_same way.first way.last way.forwards
-
-  pub level_contained : (plane : Waterplane) → IsIn planes plane → ContainsFraction 20 lo hi (level_at plane way.first way.last (whole x))
-  level_contained plane is = level_encloses plane way.first way.last x length some same planes.a1 planes.a2 planes.f1 planes.f2 lo hi before behind is.aft is.fore ends
-
-  pub level_narrow : (d : Fraction) → IsNarrow 10 d planes.a1 planes.a2 → IsNarrow 10 d planes.f1 planes.f2 → IsNarrow 20 (d ⊕ units 20 2) lo hi
-  level_narrow = level-narrow way.first way.last x length some same before behind planes.a1 planes.a2 planes.f1 planes.f2 lo hi ends
-
-  pub level_near : (l : Fraction) → IsNear 10 l planes.a1 planes.a2 → IsNear 10 l planes.f1 planes.f2 → IsNear 20 (l ⊕ units 20 1) lo hi
-  level_near = level-near way.first way.last x length some same before behind planes.a1 planes.a2 planes.f1 planes.f2 lo hi ends
-
 -- ---- places that are known
-pub record AreKnown (planes : PlaneBox) (way : Way) (k : Known) : Type 0 where
+pub record AreKnown (planes : PlaneBox) (way : ShipLength) (k : Known) : Type 0 where
   pub near : AreLevelEnds planes way.first way.last k.near.x k.near.level.lo k.near.level.hi
   pub far : AreLevelEnds planes way.first way.last k.far.x k.far.level.lo k.far.level.hi

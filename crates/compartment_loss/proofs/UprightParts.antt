@@ -34,19 +34,20 @@ use Rattle.flux_moments.specs.Limits.{EndsLess}
 use Rattle.flux_moments.specs.PartSizes.{part_area, side_area, top_area, part_volume, part_length}
 use Rattle.flux_moments.specs.Planes.{IsIn, AreLevelEnds}
 use Rattle.flux_moments.specs.Sizes.{BoxSize, HasSize, AreSizes, spread}
+use Rattle.flux_moments.specs.declared.box_levels.ShipLength.{ShipLength}
 use Rattle.flux_moments.specs.declared.plane_box.PlaneBox.{PlaneBox}
 use Rattle.flux_moments.proofs.BoxWidths.{nonnegative_rise, nonnegative_turn}
 use Rattle.flux_moments.proofs.FaceWidths.{width_at, reach_at, some, far}
 use Rattle.flux_moments.proofs.Heights.{height_is}
 use Rattle.flux_moments.proofs.MeanWidths.{depths_of, depth-narrow, depth-near, weighted_widths, weighted_reaches, nonnegative_weighted_width, nonnegative_weighted_reach}
 use Rattle.flux_moments.proofs.PartWidths.{thin-narrow, mm-near, greatest-near, nonnegative_area}
+use Rattle.flux_moments.proofs.PlaceLevels.{level_contained, level_narrow, level_near}
 use Rattle.flux_moments.proofs.TriangleColumns.{depths_at, doubled_share, volume_shared, moment_shared}
-use Rattle.compartment_loss.specs.declared.way.Way.{Way}
 use Rattle.compartment_loss.specs.Upright.{IsUpright}
-use Rattle.compartment_loss.proofs.UprightDepths.{cosine_is, sine_is, level_contained, level_narrow, level_near}
+use Rattle.compartment_loss.proofs.UprightDepths.{cosine_is, sine_is}
 
 -- ---- depths of corners
-module _ (planes : PlaneBox) (way : Way) (corner : PartCorner) (level result : Span 20) (ends : AreLevelEnds planes way.first way.last corner.x level.lo level.hi)
+module _ (planes : PlaneBox) (way : ShipLength) (corner : PartCorner) (level result : Span 20) (ends : AreLevelEnds planes way.first way.last corner.x level.lo level.hi)
     (between : (way.first ≤ℤ corner.x) × (corner.x ≤ℤ way.last)) (is : AreEnds (level.lo -ℤ corner.z.hi) (level.hi -ℤ corner.z.lo) result.lo result.hi) where
   pub corner_contained : IsUpright planes → (plane : Waterplane) (p : Position) → IsIn planes plane → HoldsCorner corner p → ContainsFraction 20 result.lo result.hi (depth plane way.first way.last p)
   corner_contained upright plane p within h = difference_contains 20 level.lo level.hi corner.z.lo corner.z.hi result.lo result.hi (level_at plane way.first way.last p.x) (height plane p) is

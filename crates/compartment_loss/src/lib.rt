@@ -11,7 +11,6 @@ mod upright_column;
 mod upright_left;
 mod upright_part;
 mod upright_wet;
-mod way;
 
 pub use flooded_hull::FloodedHull;
 pub use loss::{flood, left};

@@ -17,8 +17,7 @@ ghost use Rattle.compartment_loss.specs.Upright.{IsUpright};
 
 use crate::UprightWet;
 use crate::upright::{Known, depth_of};
-use crate::way::Way;
-use flux_moments::PlaneBox;
+use flux_moments::{PlaneBox, ShipLength};
 use hull_model::{Face, Node};
 use outward_interval::Span;
 use plane_clip::wet_depths;
@@ -32,7 +31,7 @@ pub(crate) struct KnownColumn {
 
 /// Twice the volume of the column between the wet part of a face and an upright plane, and twice the integral of x over
 /// it, with their signs. A face that is seen edgewise from above has none.
-pub(crate) fn column(face: &Face, planes: &PlaneBox, way: Way, known: Known) -> KnownColumn
+pub(crate) fn column(face: &Face, planes: &PlaneBox, way: ShipLength, known: Known) -> KnownColumn
     requires face { IsFace face.now }
     requires between { AllByRecursion (λ n. (way.first ≤ℤ n.x) × (n.x ≤ℤ way.last)) face.now.p }
     requires upright { IsUpright planes.now }
@@ -58,7 +57,7 @@ pub(crate) fn column(face: &Face, planes: &PlaneBox, way: Way, known: Known) -> 
 }
 
 /// The same of any face.
-fn seen_column(face: &Face, planes: &PlaneBox, way: Way, known: Known) -> KnownColumn
+fn seen_column(face: &Face, planes: &PlaneBox, way: ShipLength, known: Known) -> KnownColumn
     requires face { IsFace face.now }
     requires between { AllByRecursion (λ n. (way.first ≤ℤ n.x) × (n.x ≤ℤ way.last)) face.now.p }
     requires upright { IsUpright planes.now }

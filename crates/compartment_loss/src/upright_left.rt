@@ -30,9 +30,8 @@ ghost use Rattle.compartment_loss.specs.Upright.{IsUprightPlane, IsUprightBox, I
 use crate::upright::Known;
 use crate::upright_column::{column, nothing};
 use crate::upright_part::part_column_sums;
-use crate::way::Way;
 use crate::{FloodedHull, UprightWet};
-use flux_moments::PlaneBox;
+use flux_moments::{PlaneBox, ShipLength};
 use hull_model::Face;
 use hull_polyhedron::Faces;
 use plane_clip::Part;
@@ -89,7 +88,7 @@ fn lost_at(faces: &Faces, parts: &[Part], planes: &PlaneBox) -> UprightWet
     ensures volume_ends { EndsBelow 101 result.volume.lo result.volume.hi }
     ensures mx_ends { EndsBelow 121 result.mx.lo result.mx.hi }
 {
-    let way = Way {
+    let way = ShipLength {
         first: faces.first_x(),
         last: faces.last_x(),
     };
@@ -110,7 +109,7 @@ fn body_at(faces: &Faces, planes: &PlaneBox) -> UprightWet
     ensures volume_ends { EndsBelow 93 result.volume.lo result.volume.hi }
     ensures mx_ends { EndsBelow 113 result.mx.lo result.mx.hi }
 {
-    let way = Way {
+    let way = ShipLength {
         first: faces.first_x(),
         last: faces.last_x(),
     };
@@ -122,7 +121,7 @@ fn body_at(faces: &Faces, planes: &PlaneBox) -> UprightWet
 }
 
 /// The sums over the columns of faces: twice the volume, and twice the integral of x.
-fn column_sums(faces: &[Face], planes: &PlaneBox, way: Way) -> UprightWet
+fn column_sums(faces: &[Face], planes: &PlaneBox, way: ShipLength) -> UprightWet
     requires limits { AllByRecursion IsFace faces.now }
     requires between { LieBetween way.first way.last faces.now }
     requires few { length faces.now < 2 ^ 14 }

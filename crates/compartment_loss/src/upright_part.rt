@@ -18,20 +18,19 @@ ghost use Rattle.flux_moments.specs.PartSizes.{ArePartsReached, part_area, part_
 ghost use Rattle.flux_moments.specs.Planes.{IsIn, AreLevelEnds};
 ghost use Rattle.flux_moments.specs.Shared.{Shared, HoldShares, shared_columns};
 ghost use Rattle.flux_moments.specs.Sizes.{BoxSize, HasSize, spread};
+ghost use Rattle.flux_moments.specs.declared.box_levels.ShipLength as ghost_length;
 ghost use Rattle.flux_moments.specs.declared.plane_box.PlaneBox as ghost_planes;
-ghost use Rattle.compartment_loss.specs.declared.way.Way as ghost_way;
 ghost use Rattle.compartment_loss.specs.Upright.{IsUpright};
 
 use crate::UprightWet;
 use crate::upright::{Known, Place};
 use crate::upright_column::{KnownColumn, nothing};
-use crate::way::Way;
-use flux_moments::PlaneBox;
+use flux_moments::{PlaneBox, ShipLength};
 use outward_interval::Span;
 use plane_clip::{Part, PartCorner, wet_depths};
 
 /// The sums over the columns of parts: twice the volume, and twice the integral of x.
-pub(crate) fn part_column_sums(parts: &[Part], planes: &PlaneBox, way: Way) -> UprightWet
+pub(crate) fn part_column_sums(parts: &[Part], planes: &PlaneBox, way: ShipLength) -> UprightWet
     requires placed { AllByRecursion (IsPartWithin way.first way.last) parts.now }
     requires few { length parts.now < 2 ^ 22 }
     requires upright { IsUpright planes.now }
@@ -57,7 +56,7 @@ pub(crate) fn part_column_sums(parts: &[Part], planes: &PlaneBox, way: Way) -> U
 
 /// Twice the volume of the column between the wet part of a part of a face and an upright plane, and twice the integral
 /// of x over it.
-fn part_column(part: &Part, planes: &PlaneBox, way: Way, known: Known) -> KnownColumn
+fn part_column(part: &Part, planes: &PlaneBox, way: ShipLength, known: Known) -> KnownColumn
     requires within { IsPartWithin way.first way.last part.now }
     requires upright { IsUpright planes.now }
     requires near { AreLevelEnds planes.now way.first way.last known.near.x known.near.level.lo known.near.level.hi }
@@ -101,9 +100,9 @@ fn place_of(corner: &PartCorner) -> i64
 fn corner_depth(place: Place, corner: &PartCorner) -> Span<20>
     requires same { place.x ≡ corner.now.x }
     ensures ends { EndsAtMost (9 * 2 ^ 37 + 1) result.lo result.hi }
-    ensures contains { (planes : ghost_planes.PlaneBox) (way : ghost_way.Way) → IsUpright planes → AreLevelEnds planes way.first way.last place.x place.level.lo place.level.hi → (way.first ≤ℤ corner.now.x) × (corner.now.x ≤ℤ way.last) → (plane : Waterplane) (p : Position) → IsIn planes plane → HoldsCorner corner.now p → ContainsFraction 20 result.lo result.hi (model.depth plane way.first way.last p) }
-    ensures narrow { (planes : ghost_planes.PlaneBox) (way : ghost_way.Way) → AreLevelEnds planes way.first way.last place.x place.level.lo place.level.hi → (way.first ≤ℤ corner.now.x) × (corner.now.x ≤ℤ way.last) → (b : BoxSize) (h : Fraction) (y z : ℕ) → HasSize planes b → one ≼ h → IsCornerExtent y z 3 corner.now → IsNarrow 20 ((spread b h ⊕ units 20 8) ⊕ units 20 4) result.lo result.hi }
-    ensures near { (planes : ghost_planes.PlaneBox) (way : ghost_way.Way) → AreLevelEnds planes way.first way.last place.x place.level.lo place.level.hi → (way.first ≤ℤ corner.now.x) × (corner.now.x ≤ℤ way.last) → (b : BoxSize) (h : Fraction) (y z : ℕ) → HasSize planes b → b.level ⊕ whole (pos (z + y)) ≼ h → IsCornerExtent y z 3 corner.now → IsNear 20 (h ⊕ units 20 2) result.lo result.hi }
+    ensures contains { (planes : ghost_planes.PlaneBox) (way : ghost_length.ShipLength) → IsUpright planes → AreLevelEnds planes way.first way.last place.x place.level.lo place.level.hi → (way.first ≤ℤ corner.now.x) × (corner.now.x ≤ℤ way.last) → (plane : Waterplane) (p : Position) → IsIn planes plane → HoldsCorner corner.now p → ContainsFraction 20 result.lo result.hi (model.depth plane way.first way.last p) }
+    ensures narrow { (planes : ghost_planes.PlaneBox) (way : ghost_length.ShipLength) → AreLevelEnds planes way.first way.last place.x place.level.lo place.level.hi → (way.first ≤ℤ corner.now.x) × (corner.now.x ≤ℤ way.last) → (b : BoxSize) (h : Fraction) (y z : ℕ) → HasSize planes b → one ≼ h → IsCornerExtent y z 3 corner.now → IsNarrow 20 ((spread b h ⊕ units 20 8) ⊕ units 20 4) result.lo result.hi }
+    ensures near { (planes : ghost_planes.PlaneBox) (way : ghost_length.ShipLength) → AreLevelEnds planes way.first way.last place.x place.level.lo place.level.hi → (way.first ≤ℤ corner.now.x) × (corner.now.x ≤ℤ way.last) → (b : BoxSize) (h : Fraction) (y z : ℕ) → HasSize planes b → b.level ⊕ whole (pos (z + y)) ≼ h → IsCornerExtent y z 3 corner.now → IsNear 20 (h ⊕ units 20 2) result.lo result.hi }
 {
     place.level - corner.z
 }

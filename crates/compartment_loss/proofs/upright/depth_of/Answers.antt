@@ -8,7 +8,8 @@ use Rattle.outward_interval.specs.Widths.{units}
 use Rattle.flux_moments.specs.Planes.{AreLevelEnds}
 use Rattle.flux_moments.specs.Sizes.{distance, spread}
 use Rattle.flux_moments.proofs.BoxWidths.{depth_narrow, depth_near}
-use Rattle.compartment_loss.proofs.UprightDepths.{height_contained, height_narrow, height_near, level_contained, level_narrow, level_near}
+use Rattle.flux_moments.proofs.PlaceLevels.{level_contained, level_narrow, level_near}
+use Rattle.compartment_loss.proofs.UprightDepths.{height_contained, height_narrow, height_near}
 use Rattle.compartment_loss.proofs.upright.depth_of.Goals as goal
 
 pub returns-clause-contains : goal.returns-clause-contains
