@@ -7,8 +7,10 @@ mod file_shelf;
 mod mem_shelf;
 mod mem_sink;
 mod out_sink;
+mod room;
 mod shelf;
 mod sink;
+mod step_sink;
 mod sure_shelf;
 mod sure_sink;
 
@@ -18,5 +20,9 @@ pub use mem_sink::MemSink;
 pub use out_sink::OutSink;
 pub use shelf::{Shelf, ShelfFault};
 pub use sink::{PutFault, Sink};
+pub use step_sink::StepSink;
 pub use sure_shelf::SureShelf;
 pub use sure_sink::SureSink;
+
+#[cfg(test)]
+mod tests;

@@ -1,6 +1,7 @@
 // A sink in memory.
-ghost use Rattle.std.specs.Prelude.{◌≡◌, ◌≤◌, ◌<◌, Some, IfOk, vec_len, vec_capacity};
+ghost use Rattle.std.specs.Prelude.{◌≡◌, ◌<◌, Some, IfOk};
 
+use crate::room::Room;
 use crate::{PutFault, Sink};
 use exact_fraction::Memory;
 use std::alloc::Global;
@@ -10,15 +11,12 @@ use std::alloc::Global;
 /// It tells what it took.
 #[derive(Drop)]
 pub struct MemSink {
-    bytes: Vec<u8>,
-    most: usize,
+    room: Room,
     at_once: usize,
     fails: Vec<u64>,
     calls: u64,
     faults: u64,
     ghost some_at_once: { 0 < at_once },
-    ghost room: { most ≤ vec_capacity bytes },
-    ghost within: { vec_len bytes ≤ most },
 }
 
 impl MemSink {
@@ -37,10 +35,9 @@ impl MemSink {
         requires { 0 < at_once }
         ensures { IfOk result (IsFreshSink most at_once fails) }
     {
-        let bytes = Vec::with_capacity(alloc, most)?;
+        let room = Room::new(alloc, most)?;
         Ok(MemSink {
-            bytes,
-            most,
+            room,
             at_once,
             fails,
             calls: 0,
@@ -52,26 +49,24 @@ impl MemSink {
     pub fn taken(&self) -> &[u8]
         ensures { result.now ≡ bytes_taken self.now }
     {
-        &self.bytes
+        self.room.bytes()
     }
 }
 
 impl Sink for MemSink {
-    ghost taken = { λ s. Some s.bytes.items };
+    ghost taken = { λ s. Some s.room.bytes.items };
 
     ghost faults = { λ s. s.faults };
 
     fn put(&mut self, piece: &[u8]) -> Result<usize, PutFault> {
         self.calls = self.calls.saturating_add(1);
-        let room = self.most - self.bytes.len();
-        let count = piece.len().min(self.at_once).min(room);
-        if self.fails.contains(&self.calls) || (room == 0 && !piece.is_empty()) {
+        let left = self.room.left();
+        let count = piece.len().min(self.at_once).min(left);
+        if self.fails.contains(&self.calls) || (left == 0 && !piece.is_empty()) {
             self.faults = self.faults.saturating_add(1);
             return Err(PutFault::Failed);
         }
-        match self.bytes.extend_from_slice(&piece[..count]) {
-            Ok(()) => Ok(count),
-            Err(_) => unreachable!(),
-        }
+        self.room.push(&piece[..count]);
+        Ok(count)
     }
 }

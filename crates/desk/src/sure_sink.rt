@@ -1,6 +1,7 @@
 // A sink in memory whose puts never fail.
-ghost use Rattle.std.specs.Prelude.{◌≡◌, ◌≤◌, Some, None, IfOk, vec_len, vec_capacity, if◌then◌else◌};
+ghost use Rattle.std.specs.Prelude.{◌≡◌, Some, None, IfOk, if◌then◌else◌};
 
+use crate::room::Room;
 use crate::{PutFault, Sink};
 use exact_fraction::Memory;
 use std::alloc::Global;
@@ -11,11 +12,8 @@ use std::alloc::Global;
 /// faults is the constant 0.
 #[derive(Drop)]
 pub struct SureSink {
-    bytes: Vec<u8>,
-    most: usize,
+    room: Room,
     is_full: bool,
-    ghost room: { most ≤ vec_capacity bytes },
-    ghost within: { vec_len bytes ≤ most },
 }
 
 impl SureSink {
@@ -25,10 +23,9 @@ impl SureSink {
     pub fn new(alloc: Global, most: usize) -> Result<SureSink, Memory>
         ensures { IfOk result (IsFreshSureSink most) }
     {
-        let bytes = Vec::with_capacity(alloc, most)?;
+        let room = Room::new(alloc, most)?;
         Ok(SureSink {
-            bytes,
-            most,
+            room,
             is_full: false,
         })
     }
@@ -37,23 +34,21 @@ impl SureSink {
     pub fn taken(&self) -> &[u8]
         ensures { result.now ≡ bytes_kept self.now }
     {
-        &self.bytes
+        self.room.bytes()
     }
 }
 
 impl Sink for SureSink {
-    ghost taken = { λ s. if s.is_full then None else Some s.bytes.items };
+    ghost taken = { λ s. if s.is_full then None else Some s.room.bytes.items };
 
     ghost faults = { λ s. 0 };
 
     fn put(&mut self, piece: &[u8]) -> Result<usize, PutFault> {
-        if self.is_full || piece.len() > self.most - self.bytes.len() {
+        if self.is_full || piece.len() > self.room.left() {
             self.is_full = true;
             return Ok(piece.len());
         }
-        match self.bytes.extend_from_slice(piece) {
-            Ok(()) => Ok(piece.len()),
-            Err(_) => unreachable!(),
-        }
+        self.room.push(piece);
+        Ok(piece.len())
     }
 }
