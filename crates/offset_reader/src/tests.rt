@@ -107,3 +107,37 @@ fn long_files_are_refused_where_they_grow_too_long(rt: HostRuntime) -> Result<()
     assert_eq!(rt; found, Some(OffsetFault::TooManyPoints { row: 1 }));
     Ok(())
 }
+
+// The barge without its last row.
+const BARGE: &str = "0,10000,0\n0,10000,10000\n50000,10000,0\n50000,10000,10000\n100000,10000,0\n";
+
+fn last_height(hull: &Hull) -> Option<i64> {
+    let station = hull.stations().last()?;
+    let point = station.points.as_slice().last()?;
+    Some(point.z)
+}
+
+#[test]
+fn a_file_may_be_cut_in_its_last_row(rt: HostRuntime) -> Result<(), Fail> {
+    let alloc = rt.alloc();
+    for (row, answer) in [
+        ("100000,10000,10000\n", Ok(Some(10000))),
+        ("100000,10000,10000\r", Ok(Some(10000))),
+        ("100000,10000,10000", Ok(Some(10000))),
+        ("100000,10000,1000", Ok(Some(1000))),
+        ("100000,10000,1", Ok(Some(1))),
+        (
+            "100000,10000,",
+            Err(OffsetFault::Number { row: 6, column: 3 }),
+        ),
+        ("100000,10000", Err(OffsetFault::Columns { row: 6 })),
+        ("100000,", Err(OffsetFault::Columns { row: 6 })),
+        ("1", Err(OffsetFault::Columns { row: 6 })),
+        ("", Ok(Some(0))),
+    ] {
+        let text = format!(in alloc; "{BARGE}{row}")?;
+        let found = read(&rt, alloc, text.as_bytes()).map(|hull| last_height(&hull));
+        assert_eq!(rt; found, answer, "{row}");
+    }
+    Ok(())
+}
