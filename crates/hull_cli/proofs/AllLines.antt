@@ -2,7 +2,7 @@
 use Rattle.std.proofs.Common.{◌≡◌, ◌∙◌, ap, List, ◌++◌, inl, inr}
 use Rattle.hull_model.specs.declared.station.Station.{Station}
 use Rattle.job_reader.specs.declared.job.Job.{Job}
-use Rattle.hull_report.specs.declared.line.Command.TheVariants as command
+use Rattle.hull_report.specs.declared.names.Command.TheVariants as command
 use Rattle.report_run.specs.declared.stop.Stop.{Stop}
 use Rattle.report_run.specs.declared.stop.Stop.TheVariants as stop
 use Rattle.hull_cli.specs.Answers.{CanBeLoaded}

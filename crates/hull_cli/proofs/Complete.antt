@@ -1,7 +1,7 @@
 -- What the words ask for is given where nothing that is due, and no fault, stands against it.
 use Rattle.std.proofs.Common.{◌≡◌, subst, ℕ, ◌≤◌, ◌<◌, List, Some, length, inl, inr, arith}
 use Rattle.offset_reader.specs.Offsets.{hull_of}
-use Rattle.hull_report.specs.declared.line.Command.{Command}
+use Rattle.hull_report.specs.declared.names.Command.{Command}
 use Rattle.hull_report.specs.declared.line.Line.{Line}
 use Rattle.hull_report.specs.Spelling.{lines_text}
 use Rattle.report_run.specs.declared.status.Status.{Status}

@@ -50,11 +50,15 @@ module _ (hull : List Station) (faces : Faces) (boundary : AreFacesOf hull faces
       degrees = degrees;
       sharp = subst (λ (v : Fraction). IsSharpBracket faces bracket v d1 d2 hull) same sharp;
     };
-    kn = kn;
-    holds = subst (λ (v : Fraction). HoldsKn bracket v d1 d2 kn.lo kn.hi hull) same holds;
-    narrow = subst (λ (v : Fraction). IsNarrowKn faces bracket v d1 d2 kn.lo kn.hi) same narrow;
-    figure = figure;
-    printed = printed;
+    kn = figure;
+    shows = record {
+      span = kn;
+      encloses = record {
+        holds = subst (λ (v : Fraction). HoldsKn bracket v d1 d2 kn.lo kn.hi hull) same holds;
+        narrow = subst (λ (v : Fraction). IsNarrowKn faces bracket v d1 d2 kn.lo kn.hi) same narrow;
+      };
+      printed = printed;
+    };
     fields = refl;
   }
 

@@ -1,7 +1,7 @@
 -- Why there are no tables, by what stopped one of the calls.
 use Rattle.std.proofs.Common.{ℕ, List, inl, inr}
 use Rattle.job_reader.specs.declared.job.Job.{Job}
-use Rattle.hull_report.specs.declared.line.Command.{Command}
+use Rattle.hull_report.specs.declared.names.Command.{Command}
 use Rattle.offset_reader.specs.Offsets.{hull_of}
 use Rattle.report_run.specs.declared.stop.File.TheVariants as file
 use Rattle.report_run.specs.declared.stop.Stop.{Stop}

@@ -1,5 +1,6 @@
 -- Stability lines from what was found.
-use Rattle.std.proofs.Common.{◌≡◌, ◌∙◌, refl, sym, ap, subst, ℕ, ◌*◌, ◌^◌, ◌<◌, ◌≤◌, ◌+◌, ℤ, pos, ◌*ℤ◌, List, [], ◌∷◌, ◌++◌, append_assoc, Some, length, slice_get, unwrap_or, arith}
+use Rattle.std.proofs.Common.{◌≡◌, ◌∙◌, refl, sym, ap, subst, ℕ, ◌*◌, ◌^◌, ◌<◌, ◌≤◌, ◌+◌, ℤ, pos, ◌*ℤ◌, unsigned_abs, List, [], ◌∷◌, ◌++◌, append_assoc, Some, length, slice_get, unwrap_or, arith}
+use Rattle.std.proofs.lemmas.Int.{ints}
 use Rattle.exact_algebra.specs.Span.{IsLeastSpan}
 use Rattle.exact_algebra.proofs.Fraction.{Fraction, ◌⊗◌, inverse}
 use Rattle.exact_algebra.proofs.Span.{IsLeastSpanOf, least_span_over_out}
@@ -29,41 +30,45 @@ use Rattle.intact_criteria.proofs.Rows.{rows_suffice}
 use Rattle.intact_criteria.specs.Areas.{area_at}
 use Rattle.intact_criteria.specs.Brackets.{ByBrackets}
 use Rattle.intact_criteria.specs.Marks.{AreFindings}
-use Rattle.intact_criteria.specs.Narrow.{IsAsNarrowAsRead}
 use Rattle.intact_criteria.specs.Open.{IsOpenIfUndecided}
 use Rattle.intact_criteria.specs.Readings.{Ends, HasEnds, gz_at, readings_of}
 use Rattle.intact_criteria.specs.Right.{AreRightMarks, IsRightVerdict}
+use Rattle.intact_criteria.specs.Stated.{IsAsNarrowAsStated}
 use Rattle.intact_criteria.specs.Tables.{AreRowsOf, HoldFigures}
 use Rattle.intact_criteria.specs.declared.finding.Findings.{Findings}
-use Rattle.intact_criteria.specs.declared.finding.Side.TheVariants.{Port}
+use Rattle.intact_criteria.specs.declared.finding.Side.{Side}
+use Rattle.intact_criteria.specs.declared.finding.Side.TheVariants.{Port, Starboard}
 use Rattle.job_reader.specs.declared.job.Item.{Item}
 use Rattle.job_reader.specs.declared.job.Job.{Job}
 use Rattle.report_run.specs.declared.stop.Refusal.TheVariants as refusal
 use Rattle.report_run.specs.declared.stop.Stop.{Stop}
 use Rattle.report_run.specs.declared.stop.Stop.TheVariants as stop
-use Rattle.loading_sheet.specs.Centre.{displaced}
+use Rattle.loading_sheet.specs.Centre.{displaced, x_g, y_g, z_g}
 use Rattle.loading_sheet.specs.Loads.{IsLoadingOf}
 use Rattle.loading_sheet.specs.declared.loading.Loading.{Loading}
 use Rattle.hull_report.specs.declared.line.Line.{Line}
 use Rattle.hull_report.specs.declared.line.Line.TheVariants as line
 use Rattle.hull_cli.specs.Floats.{FloatsBetween}
 use Rattle.hull_cli.specs.Stops.{StopsLoad, StopsStability}
-use Rattle.hull_cli.specs.Stability.{AreInMetres, IsArmLine, IsInMetres, IsJudged, NamesCriterion}
+use Rattle.hull_cli.specs.Figures.{AreInMetres, IsInMetres, IsLeast}
+use Rattle.hull_cli.specs.Loads.{IsLoadLine, load_line}
+use Rattle.hull_cli.specs.Stability.{IsArmLine, IsJudged, IsLever, NamesCriterion, arm_line}
+use Rattle.hull_cli.specs.declared.levers.Lever.{Lever}
 
 -- a distance of the centre, in units of 2^-20 mm
-pub centre_ends : (moment mass : ℕ) {lo hi : ℤ} → 1 ≤ mass → moment < 2 ^ 56 → IsLeastSpanOf 20 lo hi (whole (pos moment) ⊗ inverse (whole (pos mass))) → EndsBelow 96 lo hi
+pub centre_ends : (moment : ℤ) (mass : ℕ) {lo hi : ℤ} → 1 ≤ mass → unsigned_abs moment < 2 ^ 56 → IsLeastSpanOf 20 lo hi (whole moment ⊗ inverse (whole (pos mass))) → EndsBelow 96 lo hi
 centre_ends moment mass {lo} {hi} some few h = at_most_below (2 ^ 76) 96 (omega arith) (quotient_ends (2 ^ 76) mass some small least)
   where
-    ratio : IsLeastSpan 20 lo hi (pos moment) mass
-    ratio = least_span_over_out (pos moment) mass some (subst (λ (x : Fraction). IsLeastSpanOf 20 lo hi x) (sym (over_is (pos moment) mass some)) h)
+    ratio : IsLeastSpan 20 lo hi moment mass
+    ratio = least_span_over_out moment mass some (subst (λ (x : Fraction). IsLeastSpanOf 20 lo hi x) (sym (over_is moment mass some)) h)
 
-    least : AreLeastEnds (pos moment *ℤ pos (2 ^ 20)) (pos moment *ℤ pos (2 ^ 20)) mass lo hi
+    least : AreLeastEnds (moment *ℤ pos (2 ^ 20)) (moment *ℤ pos (2 ^ 20)) mass lo hi
     least = record { low = ratio.low; high = ratio.high }
 
-    within : moment * 2 ^ 20 ≤ 2 ^ 76 * mass
-    within = omega (arith, few, some)
+    within : unsigned_abs (moment *ℤ pos (2 ^ 20)) ≤ 2 ^ 76 * mass
+    within = omega (arith, ints, few, some)
 
-    small : EndsAtMost (2 ^ 76 * mass) (pos moment *ℤ pos (2 ^ 20)) (pos moment *ℤ pos (2 ^ 20))
+    small : EndsAtMost (2 ^ 76 * mass) (moment *ℤ pos (2 ^ 20)) (moment *ℤ pos (2 ^ 20))
     small = record { low = within; high = within }
 
 -- findings that count from n up to 6 at most name one of the six criteria
@@ -87,17 +92,35 @@ in_metres : (ends : Ends) (span : Span 20) (f : Figure) → HasEnds ends span �
 in_metres ends span f has printed =
     subst (λ (lo : ℤ). IsPrinted 20 3 6 lo ends.hi f.lo f.hi) has.low (subst (λ (hi : ℤ). IsPrinted 20 3 6 span.lo hi f.lo f.hi) has.high printed)
 
-pub arm_line_is : (arms : ArmTable) (k : ℕ) (arm : Arm) → slice_get arms.rows k ≡ Some arm → (lever area : Span 20)
-    → HasEnds (gz_at arms Port k) lever → HasEnds (area_at arms Port k) area → (f g : Figure) → IsInMetres lever f → IsInMetres area g
-    → IsArmLine arms k (line.Arm k arm.drafts.d1 arm.drafts.d2 f g)
-arm_line_is arms k arm there lever area has_lever has_area f g lever_printed area_printed = record {
+pub lever_is : (arms : ArmTable) (side : Side) (k : ℕ) (gz area : Span 20) → HasEnds (gz_at arms side k) gz → HasEnds (area_at arms side k) area
+    → (lever : Lever) → IsInMetres gz lever.gz → IsInMetres area lever.area → IsLever arms side k lever
+lever_is arms side k gz area has_gz has_area lever gz_printed area_printed = record {
+  gz = in_metres (gz_at arms side k) gz lever.gz has_gz gz_printed;
+  area = in_metres (area_at arms side k) area lever.area has_area area_printed;
+}
+
+pub load_line_is : (version : ℕ) (loading : Loading) (lcg tcg kg : Span 20) → IsLeast (x_g loading) lcg → IsLeast (y_g loading) tcg → IsLeast (z_g loading) kg
+    → (x y z : Figure) → IsInMetres lcg x → IsInMetres tcg y → IsInMetres kg z → (l : Line) → l ≡ load_line version loading.mass x y z → IsLoadLine version loading l
+load_line_is version loading lcg tcg kg along beside above x y z printed_x printed_y printed_z l same = record {
+  x = x;
+  along = record { span = lcg; encloses = along; printed = printed_x };
+  y = y;
+  beside = record { span = tcg; encloses = beside; printed = printed_y };
+  z = z;
+  above = record { span = kg; encloses = above; printed = printed_z };
+  fields = same;
+}
+
+pub arm_line_is : (version : ℕ) (arms : ArmTable) (k : ℕ) (arm : Arm) → slice_get arms.rows k ≡ Some arm → (port starboard : Lever) → IsLever arms Port k port
+    → IsLever arms Starboard k starboard → (l : Line) → l ≡ arm_line version k arm.drafts port starboard → IsArmLine version arms k l
+arm_line_is version arms k arm there port starboard to_port to_starboard l same = record {
   arm = arm;
   there = there;
-  lever = f;
-  printed_lever = in_metres (gz_at arms Port k) lever f has_lever lever_printed;
-  area = g;
-  printed_area = in_metres (area_at arms Port k) area g has_area area_printed;
-  fields = refl;
+  port = port;
+  to_port = to_port;
+  starboard = starboard;
+  to_starboard = to_starboard;
+  fields = same;
 }
 
 pub all_joined : (row last : Line) (levers marks one two three four : List Line) → one ≡ row ∷ [] → two ≡ one ++ levers → three ≡ two ++ marks → four ≡ three ++ last ∷ []
@@ -117,7 +140,7 @@ module _ (hull : List Station) (is : IsHull hull) (faces : Faces) (boundary : Ar
       → ((hull : List Station) (loading : Loading) (water : Water) → HoldFigures hull loading water arms upright → AreRightMarks hull loading water arms upright job.openings findings.marks)
       → ((hull : List Station) (loading : Loading) (water : Water) → HoldFigures hull loading water arms upright → IsRightVerdict hull loading water arms upright job.openings findings.verdict)
       → ByBrackets (λ brackets. IsOpenIfUndecided (readings_of brackets arms upright job.openings) findings.verdict)
-      → ByBrackets (λ brackets. IsAsNarrowAsRead (readings_of brackets arms upright job.openings) findings.verdict)
+      → IsAsNarrowAsStated faces loading job.water arms upright job.openings findings.verdict
       → IsJudged hull job loading arms upright findings
   judged_is findings count loaded rules marks verdict undecided narrow =
       let hold = rows_suffice.figures faces loading job.water arms upright rows hull is boundary in

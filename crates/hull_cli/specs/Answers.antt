@@ -11,8 +11,8 @@ use Rattle.draft_bracket.specs.DraftBracket.{IsTooHeavy, six_of}
 use Rattle.hull_model.specs.declared.station.Station.{Station}
 use Rattle.hull_model.specs.declared.water.Water.{Water}
 use Rattle.hull_report.specs.Spelling.{lines_text}
-use Rattle.hull_report.specs.declared.line.Command.{Command}
-use Rattle.hull_report.specs.declared.line.Command.TheVariants as command
+use Rattle.hull_report.specs.declared.names.Command.{Command}
+use Rattle.hull_report.specs.declared.names.Command.TheVariants as command
 use Rattle.hull_report.specs.declared.line.Line.{Line}
 use Rattle.report_run.specs.declared.status.Status.{Status}
 use Rattle.report_run.specs.declared.status.Status.TheVariants.{Refused, ReadFault, WriteFault, NoMemory}

@@ -1,17 +1,25 @@
 -- The cross lines of a report, and displacements that are too heavy for them.
 use Rattle.std.specs.Prelude.{ℕ, ℤ, ◌≡◌, ◌⊎◌, List, [], ◌∷◌, length}
-use Rattle.outward_interval.specs.Printed.{IsPrinted}
+use Rattle.exact_algebra.proofs.Fraction.{Fraction}
+use Rattle.angle_bounds.specs.declared.bracket.Bracket.{Bracket}
 use Rattle.outward_interval.specs.declared.figure.Figure.{Figure}
 use Rattle.outward_interval.specs.declared.span.Span.{Span}
 use Rattle.cross_curves.specs.Kn.{HoldsKn, IsNarrowKn}
 use Rattle.draft_bracket.specs.DraftBracket.{IsTooHeavy}
 use Rattle.hull_model.specs.declared.station.Station.{Station}
 use Rattle.hull_model.specs.declared.water.Water.{Water}
+use Rattle.hull_polyhedron.specs.declared.faces.Faces.{Faces}
 use Rattle.loading_sheet.specs.Centre.{displaced_by}
 use Rattle.hull_report.specs.declared.line.Line.{Line}
 use Rattle.hull_report.specs.declared.line.Line.TheVariants as line
+use Rattle.hull_cli.specs.Figures.{Shows}
 use Rattle.hull_cli.specs.Floats.{FloatsBetween}
 use Rattle.hull_cli.specs.Lists.{Joined, NumberedFrom}
+
+-- the span contains KN at every level plane between the levels, and is no wider than stated
+pub record EnclosesKn (faces : Faces) (bracket : Bracket) (need : Fraction) (d1 d2 : ℤ) (hull : List Station) (kn : Span 20) : Type 0 where
+  pub holds : HoldsKn bracket need d1 d2 kn.lo kn.hi hull
+  pub narrow : IsNarrowKn faces bracket need d1 d2 kn.lo kn.hi
 
 -- the line of a hull that displaces the mass, at k degrees: the levels between which it floats, and KN in m at every level
 -- plane between them
@@ -19,12 +27,9 @@ pub record IsCrossLine (hull : List Station) (water : Water) (mass k : ℕ) (l :
   pub d1 : ℤ
   pub d2 : ℤ
   pub floats : FloatsBetween hull (displaced_by mass water) k d1 d2
-  pub kn : Span 20
-  pub holds : HoldsKn floats.bracket (displaced_by mass water) d1 d2 kn.lo kn.hi hull
-  pub narrow : IsNarrowKn floats.faces floats.bracket (displaced_by mass water) d1 d2 kn.lo kn.hi
-  pub figure : Figure
-  pub printed : IsPrinted 20 3 6 kn.lo kn.hi figure.lo figure.hi
-  pub fields : l ≡ line.Cross mass k d1 d2 figure
+  pub kn : Figure
+  pub shows : Shows 3 6 (EnclosesKn floats.faces floats.bracket (displaced_by mass water) d1 d2 hull) kn
+  pub fields : l ≡ line.Cross mass k d1 d2 kn
 
 -- one line for each degree from 0 to 90
 pub record IsCurve (hull : List Station) (water : Water) (mass : ℕ) (lines : List Line) : Type 0 where

@@ -1,7 +1,5 @@
 -- The damage lines of a report, and what stands behind them.
 use Rattle.std.specs.Prelude.{ℕ, ◌≡◌, List}
-use Rattle.outward_interval.specs.Printed.{IsPrinted}
-use Rattle.outward_interval.specs.declared.span.Span.{Span}
 use Rattle.hull_model.specs.declared.station.Station.{Station}
 use Rattle.hull_model.specs.Body.{IsHull}
 use Rattle.hull_model.specs.declared.water.Water.{Water}
@@ -22,6 +20,7 @@ use Rattle.hull_report.specs.declared.line.CaseEnd.TheVariants as case_end
 use Rattle.hull_report.specs.declared.line.Line.{Line}
 use Rattle.hull_report.specs.declared.line.Line.TheVariants as line
 use Rattle.hull_report.specs.declared.line.Sides.{Sides}
+use Rattle.hull_cli.specs.Figures.{Shows}
 use Rattle.hull_cli.specs.Lists.{NumberedPairs}
 
 -- the faces are the boundary of a hull
@@ -47,7 +46,7 @@ module _ (flood : FloodedHull) (loading : Loading) (water : Water) (hull : List 
   -- how it ends: by a sharp damage box; the ship sinks, by what is left in m³; no search starts at the fore or the aft corner
   abbrev pub EndsAs : CaseEnd → Type 0
   EndsAs (case_end.Settled sides) = IsSettled sides
-  EndsAs (case_end.Sinks figure) = (left : Span 20) × IsSunk flood loading water hull left × IsPrinted 20 9 6 left.lo left.hi figure.lo figure.hi
+  EndsAs (case_end.Sinks left) = Shows 9 6 (IsSunk flood loading water hull) left
   EndsAs case_end.NoStartFore = HasNone Fore
   EndsAs case_end.NoStartAft = HasNone Aft
 

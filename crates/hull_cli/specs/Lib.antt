@@ -4,6 +4,8 @@ pub mod Damages
 pub mod Floats
 pub mod Lengths
 pub mod Lists
+pub mod Figures
+pub mod Sides
 pub mod Loads
 pub mod Report
 pub mod Requests

@@ -1,38 +1,38 @@
 -- The load line of a report, and what stands under it.
-use Rattle.std.specs.Prelude.{◌≡◌, List, ◌∷◌}
-use Rattle.exact_algebra.proofs.Span.{IsLeastSpanOf}
+use Rattle.std.specs.Prelude.{ℕ, ◌≡◌, if◌then◌else◌, List, ◌∷◌}
 use Rattle.outward_interval.specs.declared.figure.Figure.{Figure}
-use Rattle.outward_interval.specs.declared.span.Span.{Span}
-use Rattle.job_reader.specs.declared.job.Item.{Item}
-use Rattle.loading_sheet.specs.Centre.{x_g, z_g}
+use Rattle.job_reader.specs.declared.job.Job.{Job}
+use Rattle.loading_sheet.specs.Centre.{x_g, y_g, z_g}
 use Rattle.loading_sheet.specs.Loads.{IsLoadingOf}
 use Rattle.loading_sheet.specs.declared.loading.Loading.{Loading}
 use Rattle.hull_report.specs.declared.line.Line.{Line}
 use Rattle.hull_report.specs.declared.line.Line.TheVariants as line
-use Rattle.hull_cli.specs.Stability.{IsInMetres}
+use Rattle.hull_cli.specs.Figures.{IsLeast, Shows}
+use Rattle.hull_cli.specs.Sides.{tells_sides}
 
--- the mass, and where the centre lies along the ship and above the base
-pub record IsLoadLine (loading : Loading) (l : Line) : Type 0 where
-  pub lcg : Span 20
-  pub along : IsLeastSpanOf 20 lcg.lo lcg.hi (x_g loading)
-  pub kg : Span 20
-  pub height : IsLeastSpanOf 20 kg.lo kg.hi (z_g loading)
+-- the mass and its centre: along the ship, beside the centreplane where the report tells the sides apart, and above the base
+abbrev pub load_line : ℕ → ℕ → (x y z : Figure) → Line
+load_line version mass x y z = if tells_sides version then line.Load2 mass x y z else line.Load mass x z
+
+pub record IsLoadLine (version : ℕ) (loading : Loading) (l : Line) : Type 0 where
   pub x : Figure
-  pub printed_x : IsInMetres lcg x
+  pub along : Shows 3 6 (IsLeast (x_g loading)) x
+  pub y : Figure
+  pub beside : Shows 3 6 (IsLeast (y_g loading)) y
   pub z : Figure
-  pub printed_z : IsInMetres kg z
-  pub fields : l ≡ line.Load loading.mass x z
+  pub above : Shows 3 6 (IsLeast (z_g loading)) z
+  pub fields : l ≡ load_line version loading.mass x y z
 
 -- the line of a load, and then these
-pub record IsLoadFirst (loading : Loading) (under lines : List Line) : Type 0 where
+pub record IsLoadFirst (version : ℕ) (loading : Loading) (under lines : List Line) : Type 0 where
   pub load : Line
-  pub load_line : IsLoadLine loading load
+  pub is : IsLoadLine version loading load
   pub whole : lines ≡ load ∷ under
 
--- the line of the load that items make, and under it lines that are so related to the load
-pub record UnderLoad (items : List Item) (Under : Loading → List Line → Type 0) (lines : List Line) : Type 0 where
+-- the line of the load that a job's items make, and under it lines that are so related to the load
+pub record UnderLoad (job : Job) (Under : Loading → List Line → Type 0) (lines : List Line) : Type 0 where
   pub loading : Loading
-  pub loaded : IsLoadingOf items loading
+  pub loaded : IsLoadingOf job.items loading
   pub under : List Line
   pub related : Under loading under
-  pub first : IsLoadFirst loading under lines
+  pub first : IsLoadFirst job.version loading under lines

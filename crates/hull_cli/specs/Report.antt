@@ -5,8 +5,8 @@ use Rattle.hull_model.specs.declared.station.Station.{Station}
 use Rattle.job_reader.specs.declared.job.Job.{Job}
 use Rattle.hull_maker.specs.MadeHull.{stations_of}
 use Rattle.hull_maker.specs.MadeJob.{IsMadeJob}
-use Rattle.hull_report.specs.declared.line.Command.{Command}
-use Rattle.hull_report.specs.declared.line.Command.TheVariants as command
+use Rattle.hull_report.specs.declared.names.Command.{Command}
+use Rattle.hull_report.specs.declared.names.Command.TheVariants as command
 use Rattle.hull_report.specs.declared.line.Line.{Line}
 use Rattle.hull_report.specs.declared.line.Line.TheVariants as line
 use Rattle.hull_cli.specs.Sections.{IsSectionLine}
@@ -23,17 +23,17 @@ hull_line hull = line.Hull (length hull) (points_count hull)
 pub record IsSectionReport (hull : List Station) (station draft : ℕ) (lines : List Line) : Type 0 where
   pub row : Line
   pub right : IsSectionLine hull draft station row
-  pub whole : lines ≡ line.Header command.Section ∷ hull_line hull ∷ row ∷ line.End 4 ∷ []
+  pub whole : lines ≡ line.Header 1 command.Section ∷ hull_line hull ∷ row ∷ line.End 4 ∷ []
 
--- the lines of a report that has a job: the header, the hull, the body, the rows of its tables, and the number of all lines
-abbrev pub whole_report : Command → List Station → List Line → List Line
-whole_report command hull rows = line.Header command ∷ hull_line hull ∷ line.Body (six_of hull) ∷ rows ++ line.End (4 + length rows) ∷ []
+-- the lines of a report that has a job: the header with the job's version, the hull, the body, the rows of its tables, and the number of all lines
+abbrev pub whole_report : ℕ → Command → List Station → List Line → List Line
+whole_report version command hull rows = line.Header version command ∷ hull_line hull ∷ line.Body (six_of hull) ∷ rows ++ line.End (4 + length rows) ∷ []
 
 -- the lines of the report of a command's tables
 pub record IsTablesReport (command : Command) (hull : List Station) (job : Job) (lines : List Line) : Type 0 where
   pub rows : List Line
   pub right : AreTableLines command hull job rows
-  pub whole : lines ≡ whole_report command hull rows
+  pub whole : lines ≡ whole_report job.version command hull rows
 
 -- the lines of the report on the made ship of a number
 pub record IsMadeReport (seed : ℕ) (lines : List Line) : Type 0 where
@@ -41,4 +41,4 @@ pub record IsMadeReport (seed : ℕ) (lines : List Line) : Type 0 where
   pub made : IsMadeJob job
   pub rows : List Line
   pub right : AreMadeLines (stations_of seed) job rows
-  pub whole : lines ≡ whole_report command.Make (stations_of seed) rows
+  pub whole : lines ≡ whole_report 1 command.Make (stations_of seed) rows

@@ -1,11 +1,10 @@
 -- The stability lines of a report, and what stands behind them.
-use Rattle.std.specs.Prelude.{ℕ, ◌+◌, ◌≡◌, ◌≤◌, ⊤, List, [], ◌∷◌, ◌++◌, length, slice_get, Some}
-use Rattle.outward_interval.specs.Printed.{IsPrinted}
+use Rattle.std.specs.Prelude.{ℕ, ◌+◌, ◌≡◌, ◌≤◌, ⊤, if◌then◌else◌, List, [], ◌∷◌, ◌++◌, length, slice_get, Option, Some}
 use Rattle.outward_interval.specs.declared.figure.Figure.{Figure}
-use Rattle.outward_interval.specs.declared.span.Span.{Span}
 use Rattle.hull_model.specs.declared.station.Station.{Station}
 use Rattle.hull_polyhedron.specs.declared.faces.Faces.{Faces}
 use Rattle.hull_polyhedron.specs.FacesOf.{AreFacesOf}
+use Rattle.draft_bracket.specs.declared.drafts.Drafts.{Drafts}
 use Rattle.loading_sheet.specs.Centre.{displaced}
 use Rattle.loading_sheet.specs.Loads.{IsLoadingOf}
 use Rattle.loading_sheet.specs.declared.loading.Loading.{Loading}
@@ -15,37 +14,35 @@ use Rattle.dynamic_lever.specs.declared.rows.UprightRow.{UprightRow}
 use Rattle.intact_criteria.specs.Areas.{area_at, ContainAreas}
 use Rattle.intact_criteria.specs.Brackets.{ByBrackets}
 use Rattle.intact_criteria.specs.Marks.{AreFindings}
-use Rattle.intact_criteria.specs.Narrow.{IsAsNarrowAsRead}
 use Rattle.intact_criteria.specs.Open.{IsOpenIfUndecided}
-use Rattle.intact_criteria.specs.Readings.{Ends, ends_of, gz_at, readings_of}
+use Rattle.intact_criteria.specs.Readings.{gz_at, readings_of}
 use Rattle.intact_criteria.specs.Right.{AreRightMarks, AtEveryChoice, IsRightVerdict}
+use Rattle.intact_criteria.specs.Stated.{IsAsNarrowAsStated}
 use Rattle.intact_criteria.specs.Tables.{AreRowsOf}
 use Rattle.intact_criteria.specs.declared.finding.Findings.{Findings}
 use Rattle.intact_criteria.specs.declared.finding.Mark.{Mark}
 use Rattle.intact_criteria.specs.declared.finding.Mark.TheVariants as mark
 use Rattle.intact_criteria.specs.declared.finding.Shown.{Shown}
 use Rattle.intact_criteria.specs.declared.finding.Shown.TheVariants as shown
-use Rattle.intact_criteria.specs.declared.finding.Side.TheVariants.{Port}
+use Rattle.intact_criteria.specs.declared.finding.Side.{Side}
+use Rattle.intact_criteria.specs.declared.finding.Side.TheVariants.{Port, Starboard}
 use Rattle.intact_criteria.specs.declared.finding.Verdict.{Verdict}
 use Rattle.intact_criteria.specs.declared.finding.Verdict.TheVariants as verdict
 use Rattle.job_reader.specs.declared.job.Job.{Job}
 use Rattle.hull_report.specs.declared.line.Call.{Call}
 use Rattle.hull_report.specs.declared.line.Call.TheVariants as call
-use Rattle.hull_report.specs.declared.line.Finding.{Finding}
-use Rattle.hull_report.specs.declared.line.Finding.TheVariants as finding
+use Rattle.hull_report.specs.declared.names.Finding.{Finding}
+use Rattle.hull_report.specs.declared.names.Finding.TheVariants as finding
 use Rattle.hull_report.specs.declared.line.Line.{Line}
 use Rattle.hull_report.specs.declared.line.Line.TheVariants as line
+use Rattle.hull_report.specs.declared.names.SideLine.{SideLine}
 use Rattle.hull_report.specs.declared.line.ShownLine.{ShownLine}
 use Rattle.hull_report.specs.declared.line.ShownLine.TheVariants as shown_line
+use Rattle.hull_cli.specs.Figures.{AreInMetres, IsInMetres}
 use Rattle.hull_cli.specs.Floats.{FloatsBetween}
+use Rattle.hull_cli.specs.declared.levers.Lever.{Lever}
 use Rattle.hull_cli.specs.Lists.{NumberedFrom}
-
--- a figure in m, or in m·rad, of the ends of an interval in mm or mm·rad
-abbrev pub AreInMetres : Ends → Figure → Type 0
-AreInMetres ends f = IsPrinted 20 3 6 ends.lo ends.hi f.lo f.hi
-
-abbrev pub IsInMetres : Span 20 → Figure → Type 0
-IsInMetres s f = AreInMetres (ends_of s) f
+use Rattle.hull_cli.specs.Sides.{named_side, tells_sides}
 
 -- ---- what is judged
 -- the levers of a hull with the loading of a job's items, and what the rules find in them: areas that contain the exact ones, marks and
@@ -62,7 +59,7 @@ pub record IsJudged (hull : List Station) (job : Job) (loading : Loading) (arms 
   pub marks : AreRightMarks hull loading job.water arms upright job.openings findings.marks
   pub verdict : IsRightVerdict hull loading job.water arms upright job.openings findings.verdict
   pub undecided : ByBrackets (λ brackets. IsOpenIfUndecided (readings_of brackets arms upright job.openings) findings.verdict)
-  pub narrow : ByBrackets (λ brackets. IsAsNarrowAsRead (readings_of brackets arms upright job.openings) findings.verdict)
+  pub narrow : IsAsNarrowAsStated faces loading job.water arms upright job.openings findings.verdict
 
 -- ---- lines
 pub record IsUprightLine (row : UprightRow) (l : Line) : Type 0 where
@@ -74,20 +71,30 @@ pub record IsUprightLine (row : UprightRow) (l : Line) : Type 0 where
   pub printed_gm : IsInMetres row.gm gm
   pub fields : l ≡ line.Upright row.drafts.d1 row.drafts.d2 kb bm gm
 
--- of k degrees: the lever to port, and the area under the levers to port from upright
-pub record IsArmLine (arms : ArmTable) (k : ℕ) (l : Line) : Type 0 where
+-- of k degrees: the lever to a side, and the area under the levers to this side from upright
+pub record IsLever (arms : ArmTable) (side : Side) (k : ℕ) (lever : Lever) : Type 0 where
+  pub gz : AreInMetres (gz_at arms side k) lever.gz
+  pub area : AreInMetres (area_at arms side k) lever.area
+
+-- to both sides, port first, where the report tells the sides apart, else to port
+abbrev pub arm_line : ℕ → ℕ → Drafts → (port starboard : Lever) → Line
+arm_line version k drafts port starboard =
+    if tells_sides version then line.Arm2 k drafts.d1 drafts.d2 port.gz port.area starboard.gz starboard.area
+    else line.Arm k drafts.d1 drafts.d2 port.gz port.area
+
+pub record IsArmLine (version : ℕ) (arms : ArmTable) (k : ℕ) (l : Line) : Type 0 where
   pub arm : Arm
   pub there : slice_get arms.rows k ≡ Some arm
-  pub lever : Figure
-  pub printed_lever : AreInMetres (gz_at arms Port k) lever
-  pub area : Figure
-  pub printed_area : AreInMetres (area_at arms Port k) area
-  pub fields : l ≡ line.Arm k arm.drafts.d1 arm.drafts.d2 lever area
+  pub port : Lever
+  pub to_port : IsLever arms Port k port
+  pub starboard : Lever
+  pub to_starboard : IsLever arms Starboard k starboard
+  pub fields : l ≡ arm_line version k arm.drafts port starboard
 
 -- one for each degree from 0 to 90
-pub record AreArmLines (arms : ArmTable) (lines : List Line) : Type 0 where
+pub record AreArmLines (version : ℕ) (arms : ArmTable) (lines : List Line) : Type 0 where
   pub count : length lines ≡ 91
-  pub each : NumberedFrom (IsArmLine arms) 0 lines
+  pub each : NumberedFrom (IsArmLine version arms) 0 lines
 
 -- the word of a mark
 abbrev pub finding_of : Mark → Finding
@@ -113,15 +120,21 @@ IsShownLine (shown.Pair low high) (shown_line.Pair i j) = (i ≡ low) × (j ≡ 
 IsShownLine (shown.Leak opening degree span) (shown_line.Leak number k f) = (number ≡ opening) × (k ≡ degree) × IsInMetres span f
 IsShownLine _ _ = ⊥
 
-abbrev pub IsCallOf : Verdict → Call → Type 0
-IsCallOf verdict.Pass call.Pass = ⊤
-IsCallOf (verdict.Fail criterion side shown) (call.Fail n words) = (n ≡ criterion) × IsShownLine shown words
-IsCallOf (verdict.Undecided criterion side shown) (call.Undecided n words) = (n ≡ criterion) × IsShownLine shown words
-IsCallOf _ _ = ⊥
+-- the criterion that decides, on which side where the report tells the sides apart, and what is shown
+pub record IsCauseOf (version criterion : ℕ) (side : Side) (shown : Shown) (n : ℕ) (word : Option SideLine) (words : ShownLine) : Type 0 where
+  pub number : n ≡ criterion
+  pub where_so : word ≡ named_side version side
+  pub how : IsShownLine shown words
 
-pub record IsVerdictLine (verdict : Verdict) (l : Line) : Type 0 where
+abbrev pub IsCallOf : ℕ → Verdict → Call → Type 0
+IsCallOf version verdict.Pass call.Pass = ⊤
+IsCallOf version (verdict.Fail criterion side shown) (call.Fail n word words) = IsCauseOf version criterion side shown n word words
+IsCallOf version (verdict.Undecided criterion side shown) (call.Undecided n word words) = IsCauseOf version criterion side shown n word words
+IsCallOf _ _ _ = ⊥
+
+pub record IsVerdictLine (version : ℕ) (verdict : Verdict) (l : Line) : Type 0 where
   pub call : Call
-  pub words : IsCallOf verdict call
+  pub words : IsCallOf version verdict call
   pub fields : l ≡ line.Verdict call
 
 -- the criterion that it names is one of the six
@@ -140,12 +153,12 @@ pub record AreFindingLines (hull : List Station) (job : Job) (loading : Loading)
   pub marks : List Line
   pub mark_lines : AreMarkLines findings.marks marks
   pub last : Line
-  pub verdict_line : IsVerdictLine findings.verdict last
+  pub verdict_line : IsVerdictLine job.version findings.verdict last
   pub whole : lines ≡ row ∷ levers ++ (marks ++ last ∷ [])
 
 -- the ship upright, the levers, the six marks and the verdict
 pub record AreStabilityLines (hull : List Station) (job : Job) (loading : Loading) (lines : List Line) : Type 0 where
   pub arms : ArmTable
   pub levers : List Line
-  pub arm_lines : AreArmLines arms levers
+  pub arm_lines : AreArmLines job.version arms levers
   pub found : AreFindingLines hull job loading arms levers lines

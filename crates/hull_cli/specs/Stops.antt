@@ -6,7 +6,7 @@ use Rattle.hull_model.specs.declared.water.Water.{Water}
 use Rattle.job_reader.specs.declared.job.Item.{Item}
 use Rattle.job_reader.specs.declared.job.Job.{Job}
 use Rattle.loading_sheet.specs.Centre.{displaced_by}
-use Rattle.hull_report.specs.declared.line.Command.{Command}
+use Rattle.hull_report.specs.declared.names.Command.{Command}
 use Rattle.report_run.specs.declared.stop.Refusal.TheVariants.{Heavy, Station}
 use Rattle.report_run.specs.declared.stop.Stop.{Stop}
 use Rattle.report_run.specs.declared.stop.Stop.TheVariants as stop

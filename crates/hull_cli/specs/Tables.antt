@@ -5,14 +5,17 @@ use Rattle.outward_interval.specs.declared.figure.Figure.{Figure}
 use Rattle.outward_interval.specs.declared.span.Span.{Span}
 use Rattle.hull_model.specs.declared.station.Station.{Station}
 use Rattle.hull_model.specs.declared.water.Water.{Water}
+use Rattle.hull_polyhedron.specs.declared.faces.Faces.{Faces}
+use Rattle.hull_polyhedron.specs.FacesOf.{AreFacesOf}
 use Rattle.hydro_tables.specs.declared.row.HydroRow.{HydroRow}
 use Rattle.dynamic_lever.specs.declared.rows.ArmTable.{ArmTable}
 use Rattle.hydro_tables.specs.Figures.{integrals_of}
 use Rattle.hydro_tables.specs.Row.{HoldsFigures, IsAbsentExactly}
+use Rattle.hydro_tables.specs.Widths.{AreNarrow, widths_of}
 use Rattle.job_reader.specs.declared.job.Job.{Job}
 use Rattle.loading_sheet.specs.declared.loading.Loading.{Loading}
-use Rattle.hull_report.specs.declared.line.Command.{Command}
-use Rattle.hull_report.specs.declared.line.Command.TheVariants as command
+use Rattle.hull_report.specs.declared.names.Command.{Command}
+use Rattle.hull_report.specs.declared.names.Command.TheVariants as command
 use Rattle.hull_report.specs.declared.line.Line.{Line}
 use Rattle.hull_report.specs.declared.line.Line.TheVariants as line
 use Rattle.hull_cli.specs.Curves.{AreCrossLines}
@@ -54,10 +57,14 @@ IsFigureOf shift (Some s) (Some f) = IsPrinted 20 shift 6 s.lo s.hi f.lo f.hi
 abbrev pub IsColumnFigure : Column → Option Figure → Type 0
 IsColumnFigure column figure = IsFigureOf column.shift column.span figure
 
--- the line of a hull in water at a draft: the figures of a row whose spans hold the exact figures of the hull's tetrahedra
+-- the line of a hull in water at a draft: the figures of a row whose spans hold the exact figures of the hull's tetrahedra and are no
+-- wider than stated
 pub record IsHydroLine (hull : List Station) (water : Water) (draft : ℕ) (l : Line) : Type 0 where
   pub row : HydroRow
   pub holds : HoldsFigures (integrals_of hull draft) water row
+  pub faces : Faces
+  pub boundary : AreFacesOf hull faces
+  pub narrow : AreNarrow (widths_of faces draft) (integrals_of hull draft) water row
   pub absent : IsAbsentExactly row
   pub figures : List (Option Figure)
   pub printed : Pairwise IsColumnFigure (columns_of row) figures
@@ -90,7 +97,7 @@ pub record AreAllLines (hull : List Station) (job : Job) (lines : List Line) : T
   pub curves : List Line
   pub cross : AreCrossLines hull job.water job.masses curves
   pub ship : List Line
-  pub loaded : UnderLoad job.items (AreShipLines hull job) ship
+  pub loaded : UnderLoad job (AreShipLines hull job) ship
   pub whole : lines ≡ rows ++ sections ++ curves ++ ship
 
 -- the ship upright, the marks and the verdict, without the levers behind them, then how the damage cases end
@@ -107,7 +114,7 @@ pub record AreMadeLines (hull : List Station) (job : Job) (lines : List Line) : 
   pub rows : List Line
   pub hydro : AreHydroLines hull job.water job.drafts rows
   pub ship : List Line
-  pub loaded : UnderLoad job.items (AreTrialLines hull job) ship
+  pub loaded : UnderLoad job (AreTrialLines hull job) ship
   pub whole : lines ≡ rows ++ ship
 
 -- the lines of a command's tables
@@ -115,8 +122,8 @@ abbrev pub AreTableLines : Command → List Station → Job → List Line → Ty
 AreTableLines command.Hydro hull job lines = AreHydroLines hull job.water job.drafts lines
 AreTableLines command.Bonjean hull job lines = AreBonjeanLines hull job.drafts lines
 AreTableLines command.Cross hull job lines = AreCrossLines hull job.water job.masses lines
-AreTableLines command.Stability hull job lines = UnderLoad job.items (AreStabilityLines hull job) lines
-AreTableLines command.Damage hull job lines = UnderLoad job.items (AreDamageLines hull job) lines
-AreTableLines command.Floodable hull job lines = UnderLoad job.items (AreFloodableLines hull job) lines
+AreTableLines command.Stability hull job lines = UnderLoad job (AreStabilityLines hull job) lines
+AreTableLines command.Damage hull job lines = UnderLoad job (AreDamageLines hull job) lines
+AreTableLines command.Floodable hull job lines = UnderLoad job (AreFloodableLines hull job) lines
 AreTableLines command.All hull job lines = AreAllLines hull job lines
 AreTableLines _ hull job lines = ⊥

@@ -10,8 +10,8 @@ use Rattle.report_run.specs.declared.status.Status.TheVariants.{Done, Fails, Und
 -- the status that a verdict comes with
 abbrev pub status_by : Call → Status
 status_by call.Pass = Done
-status_by (call.Fail criterion shown) = Fails
-status_by (call.Undecided criterion shown) = Undecided
+status_by (call.Fail criterion side shown) = Fails
+status_by (call.Undecided criterion side shown) = Undecided
 
 -- the status of a report, by its verdict line, if it has one
 abbrev pub status_of : List Line → Status

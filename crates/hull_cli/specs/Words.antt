@@ -4,8 +4,8 @@ use Rattle.std.specs.Char.{is_ascii_digit}
 use Rattle.std.specs.List.{list_all}
 use Rattle.std.specs.Str.{bytes_eq}
 use Rattle.std.specs.Str.Parse.{digits_value}
-use Rattle.hull_report.specs.declared.line.Command.{Command}
-use Rattle.hull_report.specs.declared.line.Command.TheVariants as command
+use Rattle.hull_report.specs.declared.names.Command.{Command}
+use Rattle.hull_report.specs.declared.names.Command.TheVariants as command
 
 -- what the words ask for
 pub data Form : Type 0 where

@@ -3,7 +3,7 @@ ghost use Rattle.std.specs.Prelude.{◌≡◌, ◌≤◌, ◌^◌, IfOk, IfErr, 
 ghost use Rattle.hull_model.specs.Body.{IsHull};
 ghost use Rattle.hull_polyhedron.specs.FacesOf.{AreFacesOf};
 ghost use Rattle.hull_report.specs.Spelling.{AreLines};
-ghost use Rattle.hull_report.specs.declared.line.Command.TheVariants as command;
+ghost use Rattle.hull_report.specs.declared.names.Command.TheVariants as command;
 ghost use Rattle.intact_criteria.specs.Tables.{AreRowsOf};
 ghost use Rattle.loading_sheet.specs.Loads.{IsLoadingOf};
 ghost use Rattle.hull_cli.specs.Loads.{UnderLoad};
@@ -67,7 +67,7 @@ fn ship_lines(
     requires faces { AreFacesOf hull.now faces.now }
     requires loaded { IsLoadingOf job.now.items loading.now }
     requires rows { AreRowsOf faces.now loading.now job.now.water standing.now.arms standing.now.upright }
-    ensures lines { IfOk result (λ lines. UnderLoad job.now.items (AreShipLines hull.now job.now) lines.items) }
+    ensures lines { IfOk result (λ lines. UnderLoad job.now (AreShipLines hull.now job.now) lines.items) }
     ensures few { IfOk result (λ lines. length lines.items ≤ 196) }
     ensures grammar { IfOk result (λ lines. AreLines lines.items) }
 {
@@ -75,5 +75,5 @@ fn ship_lines(
     let mut lines = judged_lines(alloc, faces, job, loading, standing)?;
     lines.extend_from_slice(&case_lines(alloc, faces, damages, loading, &job.water)?)?;
     lines.extend_from_slice(&length_lines(alloc, hull, faces, job, loading)?)?;
-    load_first(alloc, loading, &lines)
+    load_first(alloc, job.version, loading, &lines)
 }

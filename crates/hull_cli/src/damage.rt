@@ -30,14 +30,14 @@ const TO_CUBIC_METRES: u32 = 9;
 /// The load, and how each damage case ends. Stops where the items make no loading. The faces are the hull's boundary.
 pub(crate) fn damage_lines(alloc: Global, faces: &Faces, job: &Job) -> Result<Vec<Line>, Stop>
     requires { AreOfSomeHull faces.now }
-    ensures lines { IfOk result (λ lines. OfHulls faces.now (λ hull. UnderLoad job.now.items (AreDamageLines hull job.now) lines.items)) }
+    ensures lines { IfOk result (λ lines. OfHulls faces.now (λ hull. UnderLoad job.now (AreDamageLines hull job.now) lines.items)) }
     ensures few { IfOk result (λ lines. length lines.items ≤ 33) }
     ensures grammar { IfOk result (λ lines. AreLines lines.items) }
     ensures stops { IfErr result (StopsLoad job.now.items) }
 {
     let loading = loading_of(job.items.as_slice())?;
     let cases = case_lines(alloc, faces, job.damages.as_slice(), &loading, &job.water)?;
-    Ok(load_first(alloc, &loading, &cases)?)
+    Ok(load_first(alloc, job.version, &loading, &cases)?)
 }
 
 /// A line for each case, numbered from 1. The faces are the hull's boundary.

@@ -4,13 +4,15 @@ ghost use Rattle.outward_interval.specs.Ends.{EndsBelow};
 ghost use Rattle.hull_report.specs.Spelling.{AreLines, AreWords, IsLine, call_words, shown_words};
 ghost use Rattle.intact_criteria.specs.Bounds.{IsBounded, IsBoundedVerdict};
 ghost use Rattle.intact_criteria.specs.declared.finding.Shown.TheVariants as shown;
+ghost use Rattle.hull_cli.specs.Sides as sides;
 ghost use Rattle.hull_cli.specs.Stability as spec;
 ghost use Rattle.hull_cli.specs.Stability.{AreMarkLines, IsCallOf, IsMarkLine, IsShownLine, IsVerdictLine, NamesCriterion};
 
 use crate::units::{PLACES, TO_METRES};
+use crate::version::tells_sides;
 use exact_fraction::Memory;
-use hull_report::{Call, Finding, Line, ShownLine};
-use intact_criteria::{Mark, Shown, Verdict};
+use hull_report::{Call, Finding, Line, ShownLine, SideLine};
+use intact_criteria::{Mark, Shown, Side, Verdict};
 use outward_interval::Span;
 use std::alloc::Global;
 
@@ -47,43 +49,57 @@ fn finding_of(mark: Mark) -> Finding
     }
 }
 
-/// The verdict.
-pub(crate) fn verdict_line(verdict: &Verdict) -> Line
+/// The verdict, in the words of a job's version.
+pub(crate) fn verdict_line(version: u32, verdict: &Verdict) -> Line
     requires named { NamesCriterion verdict.now }
     requires bounded { IsBoundedVerdict verdict.now }
-    ensures line { IsVerdictLine verdict.now result }
+    ensures line { IsVerdictLine version verdict.now result }
     ensures grammar { IsLine result }
 {
     Line::Verdict {
-        call: call_of(verdict),
+        call: call_of(version, verdict),
     }
 }
 
-fn call_of(verdict: &Verdict) -> Call
+fn call_of(version: u32, verdict: &Verdict) -> Call
     requires named { NamesCriterion verdict.now }
     requires bounded { IsBoundedVerdict verdict.now }
-    ensures words { IsCallOf verdict.now result }
+    ensures words { IsCallOf version verdict.now result }
     ensures grammar { AreWords (call_words result) }
 {
     match *verdict {
         Verdict::Pass => Call::Pass,
         Verdict::Fail {
             criterion,
+            side,
             shown,
-            ..
         } => Call::Fail {
             criterion,
+            side: named_side(version, side),
             shown: shown_line(&shown),
         },
         Verdict::Undecided {
             criterion,
+            side,
             shown,
-            ..
         } => Call::Undecided {
             criterion,
+            side: named_side(version, side),
             shown: shown_line(&shown),
         },
     }
+}
+
+fn named_side(version: u32, side: Side) -> Option<SideLine>
+    ensures { result ≡ sides.named_side version side }
+{
+    if !tells_sides(version) {
+        return None;
+    }
+    Some(match side {
+        Side::Port => SideLine::Port,
+        Side::Starboard => SideLine::Starboard,
+    })
 }
 
 fn shown_line(shown: &Shown) -> ShownLine

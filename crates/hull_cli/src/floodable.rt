@@ -31,14 +31,14 @@ pub(crate) fn floodable_lines(
     job: &Job,
 ) -> Result<Vec<Line>, Stop>
     requires { AreFacesOf hull.now faces.now }
-    ensures lines { IfOk result (λ lines. UnderLoad job.now.items (AreFloodableLines hull.now job.now) lines.items) }
+    ensures lines { IfOk result (λ lines. UnderLoad job.now (AreFloodableLines hull.now job.now) lines.items) }
     ensures few { IfOk result (λ lines. length lines.items ≤ 65) }
     ensures grammar { IfOk result (λ lines. AreLines lines.items) }
     ensures stops { IfErr result (StopsLoad job.now.items) }
 {
     let loading = loading_of(job.items.as_slice())?;
     let lengths = length_lines(alloc, hull, faces, job, &loading)?;
-    Ok(load_first(alloc, &loading, &lengths)?)
+    Ok(load_first(alloc, job.version, &loading, &lengths)?)
 }
 
 /// The lines of the centres, if the job has a plan. The faces are the hull's boundary.

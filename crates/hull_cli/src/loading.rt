@@ -25,19 +25,20 @@ pub(crate) fn loading_of(items: &[Item]) -> Result<Loading, Stop>
     }
 }
 
-/// The line of a load, and then these.
+/// The line of a load, in the words of a job's version, and then these.
 pub(crate) fn load_first(
     alloc: Global,
+    version: u32,
     loading: &Loading,
     under: &[Line],
 ) -> Result<Vec<Line>, Memory>
     requires { AreLines under.now }
-    ensures lines { IfOk result (λ lines. IsLoadFirst loading.now under.now lines.items) }
+    ensures lines { IfOk result (λ lines. IsLoadFirst version loading.now under.now lines.items) }
     ensures count { IfOk result (λ lines. length lines.items ≡ 1 + length under.now) }
     ensures grammar { IfOk result (λ lines. AreLines lines.items) }
 {
     let mut lines = Vec::new(alloc);
-    lines.push(load_line(loading))?;
+    lines.push(load_line(version, loading))?;
     lines.extend_from_slice(under)?;
     Ok(lines)
 }

@@ -33,7 +33,7 @@ pub(crate) fn made_report(alloc: Global, seed: u32) -> Result<Vec<Line>, Memory>
     let hull = made_hull(alloc, seed)?;
     let job = made_job(alloc)?;
     let faces = faces_of(alloc, &hull)?;
-    let first = first_lines(Command::Make, &hull, &faces);
+    let first = first_lines(&job, Command::Make, &hull, &faces);
     let rows = made_lines(alloc, &hull, &faces, &job)?;
     report_lines(alloc, &first, &rows)
 }
@@ -97,12 +97,12 @@ fn trial_lines(
     requires faces { AreFacesOf hull.now faces.now }
     requires loaded { IsLoadingOf job.now.items loading.now }
     requires rows { AreRowsOf faces.now loading.now job.now.water standing.now.arms standing.now.upright }
-    ensures lines { IfOk result (λ lines. UnderLoad job.now.items (AreTrialLines hull.now job.now) lines.items) }
+    ensures lines { IfOk result (λ lines. UnderLoad job.now (AreTrialLines hull.now job.now) lines.items) }
     ensures few { IfOk result (λ lines. length lines.items ≤ 41) }
     ensures grammar { IfOk result (λ lines. AreLines lines.items) }
 {
     let damages = job.damages.as_slice();
     let mut lines = finding_lines(alloc, faces, job, loading, standing, &[])?;
     lines.extend_from_slice(&case_lines(alloc, faces, damages, loading, &job.water)?)?;
-    load_first(alloc, loading, &lines)
+    load_first(alloc, job.version, loading, &lines)
 }

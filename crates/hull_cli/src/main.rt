@@ -17,6 +17,7 @@ mod stability;
 mod tables;
 mod units;
 mod verdict;
+mod version;
 mod words;
 
 pub use commands::run;

@@ -34,6 +34,7 @@ pub(crate) fn section_report(
     }
     let lines = [
         Line::Header {
+            version: 1,
             command: Command::Section,
         },
         hull_line(hull),

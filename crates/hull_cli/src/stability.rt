@@ -29,7 +29,7 @@ use std::alloc::Global;
 /// The load, the ship upright, the levers from 0 to 90 degrees, the marks of the six criteria and the verdict. Stops where
 /// the items make no loading, and where it is too heavy. The faces are the hull's boundary.
 pub(crate) fn stability_lines(alloc: Global, faces: &Faces, job: &Job) -> Result<Vec<Line>, Stop>
-    ensures lines { IfOk result (λ lines. OfHulls faces.now (λ hull. UnderLoad job.now.items (AreStabilityLines hull job.now) lines.items)) }
+    ensures lines { IfOk result (λ lines. OfHulls faces.now (λ hull. UnderLoad job.now (AreStabilityLines hull job.now) lines.items)) }
     ensures count { IfOk result (λ lines. length lines.items ≡ 100) }
     ensures grammar { IfOk result (λ lines. AreLines lines.items) }
     ensures stops { IfErr result (λ why. OfHulls faces.now (λ hull. StopsStability hull job.now.water job.now.items why)) }
@@ -37,7 +37,7 @@ pub(crate) fn stability_lines(alloc: Global, faces: &Faces, job: &Job) -> Result
     let loading = loading_of(job.items.as_slice())?;
     let standing = standing_of(faces, &loading, &job.water)?;
     let judged = judged_lines(alloc, faces, job, &loading, &standing)?;
-    Ok(load_first(alloc, &loading, &judged)?)
+    Ok(load_first(alloc, job.version, &loading, &judged)?)
 }
 
 /// The levers of a loading, and the ship upright.
@@ -77,7 +77,7 @@ pub(crate) fn judged_lines(
     ensures count { IfOk result (λ lines. length lines.items ≡ 99) }
     ensures grammar { IfOk result (λ lines. AreLines lines.items) }
 {
-    let levers = arm_lines(alloc, &standing.arms)?;
+    let levers = arm_lines(alloc, job.version, &standing.arms)?;
     finding_lines(alloc, faces, job, loading, standing, &levers)
 }
 
@@ -102,6 +102,6 @@ pub(crate) fn finding_lines(
     lines.push(upright_line(&standing.upright))?;
     lines.extend_from_slice(levers)?;
     lines.extend_from_slice(&mark_lines(alloc, &findings.marks)?)?;
-    lines.push(verdict_line(&findings.verdict))?;
+    lines.push(verdict_line(job.version, &findings.verdict))?;
     Ok(lines)
 }

@@ -40,20 +40,23 @@ pub(crate) fn tables_report(
     ensures stops { IfErr result (StopsTables command job.now hull.now) }
 {
     let faces = faces_of(alloc, hull)?;
-    let first = first_lines(command, hull, &faces);
+    let first = first_lines(job, command, hull, &faces);
     let rows = table_lines(alloc, command, hull, &faces, job)?;
     Ok(report_lines(alloc, &first, &rows)?)
 }
 
 /// The first lines of a report: the header, the hull and the body. The faces are the hull's boundary.
-pub(crate) fn first_lines(command: Command, hull: &Hull, faces: &Faces) -> [Line; 3]
+pub(crate) fn first_lines(job: &Job, command: Command, hull: &Hull, faces: &Faces) -> [Line; 3]
     requires { AreFacesOf hull.now faces.now }
-    ensures lines { result ≡ line.Header command ∷ report.hull_line hull.now ∷ line.Body (six_of hull.now) ∷ [] }
+    ensures lines { result ≡ line.Header job.now.version command ∷ report.hull_line hull.now ∷ line.Body (six_of hull.now) ∷ [] }
     ensures kept { IsHull hull.now }
     ensures grammar { AreLines result }
 {
     [
-        Line::Header { command },
+        Line::Header {
+            version: job.version,
+            command,
+        },
         hull_line(hull),
         Line::Body {
             six: six_volume(faces),

@@ -1,5 +1,6 @@
 mod barge;
 mod cargo;
+mod hostile;
 mod made;
 mod refusals;
 mod reports;

@@ -44,9 +44,29 @@ const CASES: &str = "\
 3@all@refused heavy 20500001 120000000000000/@density = 1025/displacements = [10250000, 20500001, 20500003]/item = [{name = 'a', mass = 10250000, x = 50000, z = 7000}]/\n\
 ";
 
-// Whether a run on this job ends with the code and has written this part.
-fn has(alloc: Global, command: &str, job: &str, code: u8, part: &str) -> Result<bool, Fail> {
-    let job = format!(in alloc; "version = 1/length_bp = 100000/{job}")?;
+// With the item off the centreplane.
+const SIDES: &str = "\
+0@stability@hullcert 2 stability/hull 3 6/body 120000000000000/load 10250000 [50.000000,50.000000] [0.500000,0.500000] [7.000000,7.000000]/upright 5120000 5120000 [2.@density = 1025/item = [{name = 'a', mass = 10250000, x = 50000, y = 500, z = 7000}]/\n\
+0@stability@/arm 0 5120000 5120000 [0.499999,0.500001] [0.000000,0.000000] [-0.500001,-0.499999] [0.000000,0.000000]/arm 1 @density = 1025/item = [{name = 'a', mass = 10250000, x = 50000, y = 500, z = 7000}]/\n\
+0@stability@verdict pass/end 104/@density = 1025/item = [{name = 'a', mass = 10250000, x = 50000, y = 500, z = 7000}]/\n\
+1@stability@verdict fail C1 starboard interval 30 [-@density = 1025/item = [{name = 'a', mass = 10250000, x = 50000, y = 1000, z = 7000}]/\n\
+1@stability@verdict fail C1 port interval 30 [-@density = 1025/item = [{name = 'a', mass = 10250000, x = 50000, y = -1000, z = 7000}]/\n\
+1@stability@verdict fail C3 port leak 1 27 [0.@density = 1025/item = [{name = 'a', mass = 10250000, x = 50000, z = 7000}]/opening = [{name = 'o', y = 10000, z = 10000}]/\n\
+0@all@/load 10250000 [50.000000,50.000000] [-0.500000,-0.500000] [7.000000,7.000000]/upright @density = 1025/item = [{name = 'a', mass = 10250000, x = 50000, y = -500, z = 7000}]/\n\
+0@damage@hullcert 2 damage/hull 3 6/body 120000000000000/load 10250000 [50.000000,50.000000] [0.500000,0.500000] [9.100000,9.100000]/damage 1 5119999 5120001 5119999 5120001/end 6/@density = 1025/item = [{name = 'a', mass = 10250000, x = 50000, y = 500, z = 9100}]/damage = [{name = 'd0', flooded = []}]/\n\
+0@hydro@hullcert 2 hydro/hull 3 6/body 120000000000000/end 4/@density = 1025/\n\
+";
+
+// Whether a run on a job of this version ends with the code and has written this part.
+fn has(
+    alloc: Global,
+    version: u32,
+    command: &str,
+    job: &str,
+    code: u8,
+    part: &str,
+) -> Result<bool, Fail> {
+    let job = format!(in alloc; "version = {version}/length_bp = 100000/{job}")?;
     let job = bytes_of(alloc, job.as_str())?;
     let mut shelf = shelf_of(alloc, job, bytes_of(alloc, BARGE)?, Vec::new(alloc))?;
     let mut out = MemSink::new(alloc, 32768, 1024, Vec::new(alloc))?;
@@ -59,14 +79,14 @@ fn has(alloc: Global, command: &str, job: &str, code: u8, part: &str) -> Result<
 }
 
 // The first case that is answered otherwise: its exit code, command, a part of the report, and the job.
-fn wrong_report(alloc: Global, cases: &str) -> Result<Option<&str>, Fail> {
+fn wrong_report(alloc: Global, version: u32, cases: &str) -> Result<Option<&str>, Fail> {
     for case in cases.lines() {
         let mut fields = case.split('@');
         let code = fields.next().ok_or("no code")?.parse::<u8>()?;
         let command = fields.next().ok_or("no command")?;
         let part = fields.next().ok_or("no part")?;
         let job = fields.next().ok_or("no job")?;
-        if !has(alloc, command, job, code, part)? {
+        if !has(alloc, version, command, job, code, part)? {
             return Ok(Some(case));
         }
     }
@@ -75,6 +95,12 @@ fn wrong_report(alloc: Global, cases: &str) -> Result<Option<&str>, Fail> {
 
 #[test]
 fn each_report_has_its_part(rt: HostRuntime) -> Result<(), Fail> {
-    assert_eq!(rt; wrong_report(rt.alloc(), CASES)?, None);
+    assert_eq!(rt; wrong_report(rt.alloc(), 1, CASES)?, None);
+    Ok(())
+}
+
+#[test]
+fn each_report_of_version_2_has_its_part(rt: HostRuntime) -> Result<(), Fail> {
+    assert_eq!(rt; wrong_report(rt.alloc(), 2, SIDES)?, None);
     Ok(())
 }

@@ -25,21 +25,23 @@ const HEAVY: &str = "\
 // The job before the hull.
 const JOBS: &str = "\
 3@refused job text/@bonjean|job.toml|hull.csv@version = \n\
-3@refused job version/@bonjean|job.toml|hull.csv@version = 2/\n\
+3@refused job version/@bonjean|job.toml|hull.csv@version = 3/\n\
 3@refused job missing version 0/@bonjean|job.toml|hull.csv@density = 1025/\n\
 3@refused job unknown top 0/@bonjean|job.toml|hull.csv@version = 1/densty = 1025/\n\
 3@refused job kind length_bp 0/@bonjean|job.toml|hull.csv@version = 1/density = 1025/length_bp = '100'/\n\
 3@refused job range drafts 0/@bonjean|job.toml|hull.csv@version = 1/density = 1025/length_bp = 100000/drafts = [131072]/\n\
 3@refused job many displacements 0/@bonjean|job.toml|hull.csv@version = 1/density = 1025/length_bp = 100000/displacements = [1,1,1,1,1,1,1,1,1,1,1,1,1,1,1,1,1]/\n\
 3@refused job missing item.mass 2/@bonjean|job.toml|hull.csv@version = 1/density = 1025/length_bp = 100000/item = [{name = 'a', mass = 1, x = 0, z = 0}, {name = 'b', x = 0, z = 0}]/\n\
+3@refused job unknown item 1/@bonjean|job.toml|hull.csv@version = 1/density = 1025/length_bp = 100000/item = [{name = 'a', mass = 1, x = 0, y = 0, z = 0}]/\n\
+3@refused job range item.y 1/@bonjean|job.toml|hull.csv@version = 2/density = 1025/length_bp = 100000/item = [{name = 'a', mass = 1, x = 0, y = -65536, z = 0}]/\n\
 3@refused job range opening.y 1/@bonjean|job.toml|hull.csv@version = 1/density = 1025/length_bp = 100000/opening = [{name = 'a', y = 65536, z = 0}]/\n\
 3@refused job name opening.name 1/@bonjean|job.toml|hull.csv@version = 1/density = 1025/length_bp = 100000/opening = [{name = 'a b', y = 0, z = 0}]/\n\
 3@refused job twice item.name 2/@bonjean|job.toml|hull.csv@version = 1/density = 1025/length_bp = 100000/item = [{name = 'a', mass = 1, x = 0, z = 0}, {name = 'a', mass = 1, x = 0, z = 0}]/\n\
 3@refused job overlap 1 2/@bonjean|job.toml|hull.csv@version = 1/density = 1025/length_bp = 100000/compartment = [{name = 'a', from = 0, to = 10, permeability = 1000}, {name = 'b', from = 5, to = 20, permeability = 1000}]/\n\
 3@refused job notnamed 1/@bonjean|job.toml|hull.csv@version = 1/density = 1025/length_bp = 100000/damage = [{name = 'a', flooded = ['b']}]/\n\
 3@refused job missing floodable.step 0/@bonjean|job.toml|hull.csv@version = 1/density = 1025/length_bp = 100000/floodable = {centres = [0], permeability = 800}/\n\
-3@refused job version/@hydro|job.toml|hull.csv@version = 2/@0,1/\n\
-3@refused job version/@hydro|job.toml|absent.csv@version = 2/\n\
+3@refused job version/@hydro|job.toml|hull.csv@version = 3/@0,1/\n\
+3@refused job version/@hydro|job.toml|absent.csv@version = 3/\n\
 ";
 
 #[test]

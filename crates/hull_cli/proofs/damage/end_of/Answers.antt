@@ -14,4 +14,8 @@ returns-in-Ok-clause-ends c hull is = record {
 }
 
 pub returns-in-Err-Sinks-clause-ends : goal.returns-in-Err-Sinks-clause-ends
-returns-in-Err-Sinks-clause-ends c hull is = (c.in-Err-Sinks.left, rw c.in-Err-Sinks.field-0-is at c.in-Err-Sinks.ensures.fault hull is, c.figure.ensures)
+returns-in-Err-Sinks-clause-ends c hull is = record {
+  span = c.in-Err-Sinks.left;
+  encloses = rw c.in-Err-Sinks.field-0-is at c.in-Err-Sinks.ensures.fault hull is;
+  printed = c.figure.ensures;
+}

@@ -11,5 +11,5 @@ loop-degree-preserved c =
     record {
       count = omega (arith, inv.count, c.in_ok-push.ensures.len);
       grammar = rw items (all_more IsLine _ _ inv.grammar (c.arm_line.ensures.grammar, tt));
-      rows = rw items (numbered_more (IsArmLine c.args.arms.now) 0 _ c.loop-degree.degree _ inv.rows (omega (arith, inv.count)) c.arm_line.ensures.line);
+      rows = rw items (numbered_more (IsArmLine c.args.version c.args.arms.now) 0 _ c.loop-degree.degree _ inv.rows (omega (arith, inv.count)) c.arm_line.ensures.line);
     }

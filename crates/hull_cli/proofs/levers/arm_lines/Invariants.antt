@@ -8,5 +8,5 @@ abbrev pub invariant-loop-degree : goal.invariant-loop-degree
 invariant-loop-degree l = record {
   count : length l.lines.items ≡ l.degree;
   grammar : AreLines l.lines.items;
-  rows : NumberedFrom (IsArmLine l.arms) 0 l.lines.items;
+  rows : NumberedFrom (IsArmLine l.version l.arms) 0 l.lines.items;
 }

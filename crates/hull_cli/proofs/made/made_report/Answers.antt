@@ -9,5 +9,5 @@ returns-clause-reports c =
       made = c.in_ok-job.ensures;
       rows = c.in_ok-rows.rows.items;
       right = rw c.in_ok-hull.ensures at c.in_ok-rows.ensures.lines;
-      whole = rw c.in_ok-hull.ensures at whole;
+      whole = rw c.in_ok-job.ensures.version at (rw c.in_ok-hull.ensures at whole);
     }) c.report_lines.result whole

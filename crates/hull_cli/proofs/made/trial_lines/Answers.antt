@@ -1,4 +1,4 @@
-use Rattle.std.proofs.Common.{[], ◌∷◌, arith}
+use Rattle.std.proofs.Common.{arith}
 use Rattle.hull_cli.proofs.Counts.{few_damages}
 use Rattle.hull_cli.proofs.Listed.{of_each_ok}
 use Rattle.hull_cli.specs.Tables.{AreTrialLines}

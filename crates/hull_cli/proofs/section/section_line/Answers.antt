@@ -6,13 +6,10 @@ pub returns-clause-line : goal.returns-clause-line
 returns-clause-line c = record {
   at = c.index-stations-station.result;
   there = rw c.stations.ensures.same at (slice_get_read c.stations.result.now _ c.args.station c.index-stations-station.result refl (rw c.stations.ensures.same c.requires.there) c.index-stations-station.is);
-  spans = c.section-spans.result;
-  exact_area = c.section-spans.ensures.area;
-  exact_moment = c.section-spans.ensures.moment;
   area = c.figure.result;
-  printed_area = c.figure.ensures;
+  shows_area = record { span = c.section-spans.result.area; encloses = c.section-spans.ensures.area; printed = c.figure.ensures };
   moment = c.figure-2.result;
-  printed_moment = c.figure-2.ensures;
+  shows_moment = record { span = c.section-spans.result.moment; encloses = c.section-spans.ensures.moment; printed = c.figure-2.ensures };
   x = c.place_of.result;
   place = c.place_of.ensures;
   fields = refl;
