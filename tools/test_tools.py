@@ -571,7 +571,7 @@ class Reports(Room):
     def test_both_sides_of_a_job_of_version_2(self):
         load = "load 10250000 [50.000000,50.000000] [0.500000,0.500000] [7.000000,7.000000]\n"
         arms = "".join(f"arm {k} 1 2 [0.{k:06d},0.{k:06d}] [0.000000,0.000000] [-0.5{k:05d},-0.500000] [-0.200000,0.000000]\n" for k in range(3))
-        text = f"hullcert 2 stability\n{load}{arms}verdict fail C1 starboard interval 30 [-0.084384,-0.084377]\nend 7\n"
+        text = f"hullcert 2 stability\n{load}{arms}verdict fail C1 starboard interval 30 [-0.142951,-0.142947]\nend 7\n"
         loads = self.tool("report_csv.py", self.file("report", text), "--table", "load").stdout
         self.assertEqual(loads.splitlines(), ["mass_kg,lcg_m_low,lcg_m_high,tcg_m_low,tcg_m_high,kg_m_low,kg_m_high", "10250000,50.000000,50.000000,0.500000,0.500000,7.000000,7.000000"])
         levers = self.tool("report_csv.py", self.file("report", text), "--table", "arm").stdout.splitlines()
@@ -977,6 +977,7 @@ class Everything(Room):
         text = (TOP / "README.md").read_text(encoding="utf-8")
         with_job = [command for command, words in refusal_hints.FORMS.items() if words == ["JOB", "OFFSETS"]]
         asked = [[command, CARGO_JOB, CARGO] for command in with_job] + [["section", CARGO, "12", "8000"]]
+        asked.append(["stability", TOP / "examples" / "off_centre.toml", TOP / "examples" / "barge.csv"])
         written = [line for words in asked for line in run([PROGRAM, *words]).stdout.splitlines()]
         shown = re.findall(r"(?m)^    ((?:hydro|section|cross|load|upright|arm|mark|verdict|damage|safe|next|hull|body|end) [0-9C-p].*)$", text)
         self.assertGreater(len(shown), 30)
