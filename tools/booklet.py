@@ -54,9 +54,14 @@ th { text-align: left; font-weight: 600; background: #e9eff5; border-bottom: 0.6
 th, td { padding: 0.7mm 1.4mm; vertical-align: top; font-size: 8.5pt; }
 td { border-bottom: 0.3pt solid #ccd; }
 table.numbers td:not(:first-child), table.numbers th:not(:first-child) { text-align: right; }
-table.wide td:first-child { width: 34mm; color: #444; }
-i.f { font: 6.6pt/1.2 "DejaVu Sans Mono", "Liberation Mono", monospace; color: #444; }
-table.figures i.f { display: inline-block; }
+table.wide td:first-child { color: #444; }
+i.f { font: 6.1pt/1.2 "DejaVu Sans Mono", "Liberation Mono", monospace; color: #444; }
+td > i.f { display: block; }
+table.dense i.f { font-size: 5.4pt; }
+.levels i.f { display: block; }
+h3.page { break-before: page; }
+.whole { break-inside: avoid; }
+.beside { display: grid; grid-template-columns: 1fr 1fr; gap: 5mm; align-items: start; } .beside h3 { margin-top: 0; }
 code { font: 6.8pt "DejaVu Sans Mono", "Liberation Mono", monospace; }
 ul { margin: 0; padding-left: 4.5mm; } li { margin-bottom: 0.8mm; font-size: 8.5pt; }
 .note { font-size: 7.5pt; color: #555; margin: 1mm 0 3mm; }
@@ -66,8 +71,8 @@ ul { margin: 0; padding-left: 4.5mm; } li { margin-bottom: 0.8mm; font-size: 8.5
 svg { display: block; width: 100%; height: auto; }
 svg.plan { max-width: 112mm; margin: 0 auto; }
 .panels { display: grid; grid-template-columns: 1fr 1fr 1fr; gap: 1mm; } .panels.two { grid-template-columns: 1fr 1fr; }
-pre { font: 5.9pt/1.35 "DejaVu Sans Mono", "Liberation Mono", monospace; margin: 0; white-space: pre-wrap; word-break: break-word; }
-pre.columns { columns: 2; column-gap: 5mm; }
+pre { font: 5.5pt/1.4 "DejaVu Sans Mono", "Liberation Mono", monospace; margin: 0; white-space: pre-wrap; word-break: break-word; }
+pre.columns { columns: 2; column-gap: 3mm; }
 footer { margin-top: 4mm; font-size: 7.5pt; color: #555; }
 @media screen { body { padding: 8mm; } section { margin-top: 10mm; } }
 """

@@ -3,8 +3,6 @@
 from decimal import Decimal
 from typing import NamedTuple
 
-import report_lines
-
 PARAGRAPHS = dict(zip(("C1", "C2", "C3", "C4", "C5", "C6"), ("2.2.1", "2.2.1", "2.2.1", "2.2.2", "2.2.3", "2.2.4")))
 
 
@@ -120,7 +118,3 @@ def rows_of(lines, flooding):
 
 def verdict_of(lines):
     return next((words for words in lines if words[0] == "verdict"), None)
-
-
-def ends_in_order(word):
-    return report_lines.ends_of(word)

@@ -6,7 +6,6 @@ import itertools
 import booklet_criteria
 import booklet_plots
 import flood_pictures
-import report_lines
 import report_svg
 
 FINDINGS = {"holds": "good", "fails": "bad", "unsure": "open", "pass": "good", "fail": "bad", "undecided": "open"}
@@ -64,7 +63,7 @@ def levels(words):
     """Two levels in 1/1024 mm, and in mm rounded outwards to 1/1000."""
     low, high = int(words[0]), int(words[1])
     least, greatest = low * 1000 // 1024, -(-high * 1000 // 1024)
-    return f'<i class="f">{low}, {high}</i> = [{least / 1000:.3f},{greatest / 1000:.3f}] mm'
+    return f'<span class="levels">[{least / 1000:.3f},{greatest / 1000:.3f}] mm <i class="f">{low}, {high}</i></span>'
 
 
 def named(lines, name):
@@ -109,12 +108,10 @@ def front(lines, stations, job, sums, lack):
         parts.append(f'<p class="verdict bad">{text(lack)}</p>')
     if verdict:
         parts.append(verdict_box(verdict))
-    parts.append(particulars(lines, stations))
-    if job:
-        parts.append(table(("job", ""), job_rows(job), "wide"))
+    plan = ["<h3>Body plan</h3>", booklet_plots.body_plan(stations)] if stations else []
+    tables = [particulars(lines, stations), *([table(("job", ""), job_rows(job), "wide")] if job else [])]
+    parts += ['<div class="beside"><div>', *tables, "</div><div>", *plan, "</div></div>"] if plan else tables
     parts.append(table(("file", "bytes", "SHA-256"), [(text(name), count, f"<code>{digest}</code>") for name, count, digest in sums], "wide"))
-    if stations:
-        parts += ["<h3>Body plan</h3>", booklet_plots.body_plan(stations)]
     parts += ["<h3>Conventions</h3>", "<ul>", *(f"<li>{text(line)}</li>" for line in CONVENTIONS), "</ul>"]
     return parts
 
@@ -133,10 +130,9 @@ def hydrostatics(lines, stations):
     parts.append('<p class="note">– : the figure is absent, since the interval of what it is divided by begins at 0 or below.</p>')
     curves = {name: curve for name, curve in report_svg.hydro_curves(lines, report_svg.tops_of(stations))}
     curves = {name: curve for name, curve in curves.items() if any(point.ends for point in curve.points)}
-    frames = report_svg.frames_of(curves)
-    panels = [booklet_plots.panel(curve, frames[report_svg.family_of(name)]) for name, curve in curves.items()]
+    panels = [booklet_plots.small_panel(curve) for curve in curves.values()]
     note = " ".join(report_svg.notes_of_curves(curves.values(), bool(stations)))
-    parts += ['<h3>Hydrostatic curves</h3><div class="panels">', *panels, f'</div><p class="note">{text(note)}</p>']
+    parts += ['<div class="whole"><h3>Hydrostatic curves</h3><div class="panels">', *panels, f'</div><p class="note">{text(note)}</p></div>']
     return chapter("Hydrostatic table", *parts)
 
 
@@ -149,7 +145,7 @@ def bonjean(lines):
     places = sorted({(int(words[1]), int(words[2])) for words in rows})
     parts = [booklet_plots.bonjean(lines)]
     parts.append(
-        '<p class="note">From each station’s place its area runs to the right, by the scale at the top. Points are the report’s figures; '
+        '<p class="note">From each station’s place its area runs to the right, by the red scale. Points are the report’s figures; '
         "between them nothing is certified.</p>"
     )
     for at, title in ((4, "Area of the section below the draft, m²"), (5, "Its moment about the base, m³")):
@@ -160,7 +156,7 @@ def bonjean(lines):
                 [station, x, *(cell(found[station, draft][at]) if (station, draft) in found else "" for draft in part)]
                 for station, x in places
             ]
-            parts.append(table(heads, body, "figures"))
+            parts.append(table(heads, body, "figures" if at == 4 else "figures dense"))
     return chapter("Bonjean curves", *parts)
 
 
@@ -172,7 +168,7 @@ def cross(lines):
     if len(rows) > 1:
         parts += ["<h3>KN over displacement, at 5, 10, .., 90 degrees</h3>", booklet_plots.kn_over_displacement(rows)]
     parts.append('<p class="note">Lines join the middles of the report’s intervals; between displacements and between whole degrees nothing is certified.</p>')
-    parts.append("<h3>KN in m</h3>")
+    parts.append('<h3 class="page">KN in m</h3>')
     for masses in chunks(sorted(rows), WIDE):
         heads = ["heel", *(f"{mass} kg" for mass in masses)]
         body = [[f"{k}°", *(cell(rows[mass][k][5]) if k in rows[mass] else "" for mass in masses)] for k in range(0, 91, 5)]
@@ -252,9 +248,9 @@ def stability(lines, rows, note):
         parts += [criteria_table(rows), f'<p class="note">{text(note)}</p>']
     parts += ['<div class="panels two">', *panels, f'</div><p class="note">{text(" ".join(report_svg.LIMITS))}</p>']
     sided = len(arms[0]) == 8
-    heads = ["heel", "levels, 1/1024 mm", *(["GZ to port, m", "area", "GZ to starboard, m", "area"] if sided else ["GZ, m", "area from upright, m·rad"])]
+    heads = ["heel", "levels: mm, and 1/1024 mm", *(["GZ to port, m", "area", "GZ to starboard, m", "area"] if sided else ["GZ, m", "area from upright, m·rad"])]
     body = [[f"{words[1]}°", levels(words[2:4]), *map(cell, words[4:])] for words in arms if int(words[1]) % 5 == 0]
-    parts += ["<h3>Righting levers</h3>", table(heads, body, "figures")]
+    parts += ['<h3 class="page">Righting levers</h3>', table(heads, body, "figures")]
     parts.append('<p class="note">All degrees stand in the report at the end.</p>')
     return chapter("Intact stability", *parts)
 
@@ -281,7 +277,7 @@ def damage_row(words, name, said):
         result = [f"no waterline was found from the {text(end[1])} end", ""]
     else:
         result = [levels(end[:2]), levels(end[2:])]
-    return [f"{words[1]} {text(name)}", text(said), *result]
+    return [words[1], text(name), text(said), *result]
 
 
 def damage(lines, stations, job):
@@ -296,7 +292,7 @@ def damage(lines, stations, job):
     return chapter(
         "Drafts of the damaged ship",
         "<p>The compartments of a case are open to the sea, as lost buoyancy; the ship is upright. What is balanced are moments along the ship.</p>",
-        table(["case", "what floods", "draft at the first station (aft)", "draft at the last station"], body, "figures"),
+        table(["case", "name", "what floods", "draft at the first station (aft)", "draft at the last station"], body, "figures"),
         '<div class="panels two">',
         *(booklet_plots.panel(picture, frame) for picture in pictures.values()),
         f'</div><p class="note">{text(" ".join(notes))}</p>',
@@ -327,7 +323,7 @@ def floodable(lines, stations, job):
         "Floodable lengths",
         f"<p>{text(said)}With the safe length about its centre open to the sea the margin line stays dry at every station.</p>",
         table(["centre, mm", "safe length, mm", "level aft", "level forward", "next length, mm", "why that isn’t safe"], body, "figures"),
-        booklet_plots.panel(picture, report_svg.frame_of([picture])).replace('class="panel"', 'class="drawing"'),
+        booklet_plots.panel(picture, report_svg.frame_of([picture])).replace('class="panel"', 'class="plan"'),
         f'<p class="note">{text(" ".join(picture.notes))}</p>',
     )
 
@@ -345,7 +341,3 @@ def other_lines(lines):
     """Names of lines that no chapter shows, but the report at the end does."""
     known = "hullcert hull body hydro section cross load upright arm mark verdict damage safe next end".split()
     return sorted({words[0] for words in lines} - set(known))
-
-
-def ends(words):
-    return report_lines.figure_of(words)

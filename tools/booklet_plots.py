@@ -5,9 +5,9 @@ from typing import NamedTuple
 import report_lines
 import report_svg
 
-WIDTH, HEIGHT, LEFT, RIGHT, TOP, BOTTOM = 720, 400, 56, 44, 14, 44
 INK, FAINT = report_svg.INK, report_svg.FAINT
 FONT = 'font-family="sans-serif" font-size="11"'
+SPACING = 9.5  # of names at the right end, at the least
 
 
 class Run(NamedTuple):
@@ -17,8 +17,23 @@ class Run(NamedTuple):
     corners: list
 
 
+class Size(NamedTuple):
+    """The pixels of a drawing and of its edges, and how many ticks an axis has at the most."""
+
+    width: int
+    height: int
+    left: int
+    right: int
+    top: int
+    bottom: int
+    ticks: int
+
+
+WHOLE, SMALL = Size(720, 400, 56, 60, 24, 44, 10), Size(300, 200, 54, 12, 26, 36, 5)
+
+
 class Axes(NamedTuple):
-    """The frame of a drawing, in the units of its axes, and their titles."""
+    """The frame of a drawing, in the units of its axes, their titles, and its size."""
 
     left: float
     right: float
@@ -26,25 +41,33 @@ class Axes(NamedTuple):
     high: float
     across: str
     upwards: str
+    size: Size = WHOLE
 
     def x(self, place):
-        return LEFT + (place - self.left) / (self.right - self.left) * (WIDTH - LEFT - RIGHT)
+        size = self.size
+        return size.left + (place - self.left) / (self.right - self.left) * (size.width - size.left - size.right)
 
     def y(self, value):
-        return HEIGHT - BOTTOM - (value - self.low) / (self.high - self.low) * (HEIGHT - TOP - BOTTOM)
+        size = self.size
+        return size.height - size.bottom - (value - self.low) / (self.high - self.low) * (size.height - size.top - size.bottom)
 
     def path(self, corners):
         return "M" + "L".join(f"{self.x(place):.2f} {self.y(value):.2f}" for place, value in corners)
 
     def parts(self):
-        for tick, text in report_svg.ticks_of(self.left, self.right):
-            yield f'<path d="M{self.x(tick):.2f} {TOP}V{HEIGHT - BOTTOM}" stroke="#eee"/>'
-            yield f'<text x="{self.x(tick):.2f}" y="{HEIGHT - BOTTOM + 16}" text-anchor="middle">{text}</text>'
-        for tick, text in report_svg.ticks_of(self.low, self.high):
-            yield f'<path d="M{LEFT} {self.y(tick):.2f}H{WIDTH - RIGHT}" stroke="{"#888" if tick == 0 else "#ddd"}"/>'
-            yield f'<text x="{LEFT - 6}" y="{self.y(tick) + 4:.2f}" text-anchor="end">{text}</text>'
-        yield f'<text x="{(LEFT + WIDTH - RIGHT) / 2}" y="{HEIGHT - 8}" text-anchor="middle">{self.across}</text>'
-        yield f'<text transform="translate(12 {(TOP + HEIGHT - BOTTOM) / 2}) rotate(-90)" text-anchor="middle">{self.upwards}</text>'
+        size = self.size
+        foot, side, end = size.height - size.bottom, size.left, size.width - size.right
+        for tick, text in report_svg.ticks_of(self.left, self.right, size.ticks):
+            yield f'<path d="M{self.x(tick):.2f} {size.top}V{foot}" stroke="#eee"/>'
+            yield f'<text x="{self.x(tick):.2f}" y="{foot + 14}" text-anchor="middle">{text}</text>'
+        for tick, text in report_svg.ticks_of(self.low, self.high, size.ticks):
+            yield f'<path d="M{side} {self.y(tick):.2f}H{end}" stroke="{"#888" if tick == 0 else "#ddd"}"/>'
+            yield f'<text x="{side - 5}" y="{self.y(tick) + 4:.2f}" text-anchor="end">{text}</text>'
+        yield f'<text x="{(side + end) / 2}" y="{size.height - 7}" text-anchor="middle">{self.across}</text>'
+        if size is SMALL:
+            yield f'<text x="{side}" y="16" font-weight="bold">{self.upwards}</text>'
+        else:
+            yield f'<text transform="translate(12 {(size.top + foot) / 2}) rotate(-90)" text-anchor="middle">{self.upwards}</text>'
 
 
 def picture(width, height, parts, style="drawing"):
@@ -55,6 +78,19 @@ def picture(width, height, parts, style="drawing"):
 def panel(curve, frame):
     """A curve of report_svg.py as a drawing of its own."""
     return picture(report_svg.WIDTH, report_svg.HEIGHT, report_svg.panel_of(curve, frame).parts(), "panel")
+
+
+def small_panel(curve):
+    """A curve of report_svg.py, small, with letters that can be read at a third of a page."""
+    axes = Axes(*report_svg.frame_of([curve]), curve.across, curve.title, SMALL)
+    found = [point for point in curve.points if point.ends is not None]
+    line = axes.path([(point.place, sum(point.ends) / 2) for point in found])
+    parts = [*axes.parts(), f'<path d="{line}" fill="none" stroke="{FAINT}" stroke-width="0.8"/>']
+    for point in found:
+        x, low, high = axes.x(point.place), axes.y(point.ends[0]), axes.y(point.ends[1])
+        parts.append(f'<path d="M{x:.2f} {low:.2f}V{high:.2f}" stroke="{INK}" stroke-width="2"/>')
+        parts.append(f'<circle cx="{x:.2f}" cy="{(low + high) / 2:.2f}" r="2.4" fill="{"white" if point.is_above else INK}" stroke="{INK}"/>')
+    return picture(SMALL.width, SMALL.height, parts, "panel")
 
 
 def middle(word, places=6):
@@ -92,25 +128,42 @@ def body_plan(stations):
 # ---- Families of curves
 
 
-def family(runs, across, upwards, is_labelled_right=True):
-    """Lines through the middles of their intervals, each with its name at its last corner."""
+def spread(wanted):
+    """Places near those that are wanted, in their order and no closer than the spacing: those that crowd are centred together."""
+    groups = []
+    for place in wanted:
+        groups.append([place])
+        while len(groups) > 1 and start_of(groups[-2]) + len(groups[-2]) * SPACING > start_of(groups[-1]):
+            groups[-2:] = [groups[-2] + groups[-1]]
+    return [start_of(group) + SPACING * at for group in groups for at in range(len(group))]
+
+
+def start_of(group):
+    return max(SPACING, sum(group) / len(group) - SPACING * (len(group) - 1) / 2)
+
+
+def names_of(axes, runs):
+    """The names of lines at their right ends, with a thin line to where the line ends."""
+    runs = sorted(runs, key=lambda run: -run.corners[-1][1])
+    ends = [(axes.x(run.corners[-1][0]), axes.y(run.corners[-1][1])) for run in runs]
+    for run, (x, y), place in zip(runs, ends, spread([y for _, y in ends])):
+        yield f'<path d="M{x + 3:.2f} {y:.2f}L{x + 14:.2f} {place:.2f}" stroke="#999" stroke-width="0.5"/>'
+        yield f'<text x="{x + 16:.2f}" y="{place + 3.5:.2f}" font-size="9.5">{run.name}</text>'
+
+
+def family(runs, across, upwards):
+    """Lines through the middles of their intervals, each with its name at its right end."""
     places = [place for run in runs for place, _ in run.corners]
     values = [value for run in runs for _, value in run.corners]
     low, high = min(0, *values), max(values) or 1
     aside = (max(places) - min(places)) * 0.03 or max(1, abs(places[0]) * 0.05)
-    axes = Axes(min(places) - aside, max(places) + aside, low, high * 1.04, across, upwards)
+    axes = Axes(min(places) - aside, max(places) + aside / 3, low, high * 1.04, across, upwards)
     parts = list(axes.parts())
-    taken = []
-    for run in sorted(runs, key=lambda run: run.corners[-1][1]):
+    for run in runs:
         parts.append(f'<path d="{axes.path(run.corners)}" fill="none" stroke="{INK}" stroke-width="0.9"/>')
         if len(run.corners) < 20:
             parts += [f'<circle cx="{axes.x(x):.2f}" cy="{axes.y(y):.2f}" r="1.8" fill="{INK}"/>' for x, y in run.corners]
-        spot = run.corners[-1] if is_labelled_right else max(run.corners, key=lambda corner: corner[1])
-        y = axes.y(spot[1]) + 4
-        if all(abs(y - other) >= 9 for other in taken):
-            taken.append(y)
-            parts.append(f'<text x="{axes.x(spot[0]) + 5:.2f}" y="{y:.2f}" font-size="9.5">{run.name}</text>')
-    return picture(WIDTH, HEIGHT, parts)
+    return picture(WHOLE.width, WHOLE.height, [*parts, *names_of(axes, runs)])
 
 
 def cross_rows(lines):
@@ -135,7 +188,7 @@ def kn_over_heel(rows):
     runs = [
         Run(f"{mass / 1000:g} t", [(degree, middle(words[5])) for degree, words in sorted(rows[mass].items())]) for mass in sorted(rows)
     ]
-    return family(runs, "heel, degrees", "KN, m", is_labelled_right=False)
+    return family(runs, "heel, degrees", "KN, m")
 
 
 def bonjean(lines):
@@ -158,11 +211,12 @@ def bonjean(lines):
         parts.append(f'<path d="{axes.path(corners)}" fill="none" stroke="{INK}" stroke-width="0.9"/>')
         parts += [f'<circle cx="{axes.x(place):.2f}" cy="{axes.y(value):.2f}" r="1.6" fill="{INK}"/>' for place, value in corners]
         parts.append(f'<text x="{axes.x(x / 1000):.2f}" y="{top:.2f}" font-size="9" text-anchor="middle">{station}</text>')
-    bar = 10 ** len(str(int(greatest / 2))) / 10
+    bar = max((size for size in (1, 2, 5, 10, 20, 50, 100, 200, 500, 1000, 2000) if size <= greatest), default=greatest)
     start, end = axes.x(min(xs)), axes.x(min(xs) + bar * scale)
-    parts.append(f'<path d="M{start:.2f} {TOP + 4}v6M{start:.2f} {TOP + 7}H{end:.2f}m0 -3v6" stroke="#333" fill="none"/>')
-    parts.append(f'<text x="{end + 6:.2f}" y="{TOP + 11}">{bar:g} m²</text>')
-    return picture(WIDTH, HEIGHT, parts)
+    y = WHOLE.height - WHOLE.bottom - 8
+    parts.append(f'<path d="M{start:.2f} {y - 3}v6M{start:.2f} {y}H{end:.2f}m0 -3v6" stroke="{report_svg.ALERT}" fill="none"/>')
+    parts.append(f'<text x="{end + 6:.2f}" y="{y + 4}" fill="{report_svg.ALERT}">{bar:g} m²</text>')
+    return picture(WHOLE.width, WHOLE.height, parts)
 
 
 # ---- The sheet of GZ
@@ -179,8 +233,8 @@ def gz_sheet(curves, title, rows):
         place = f"{at % 2 * report_svg.WIDTH} {top + at // 2 * report_svg.HEIGHT}"
         parts += [f'<g transform="translate({place})">', *report_svg.panel_of(curves[name], frames[report_svg.family_of(name)]).parts(), "</g>"]
     y = top + -(-len(names) // 2) * report_svg.HEIGHT + 18
-    columns = (16, 52, 118, 500, 660, 720, 880)
-    for row, weight in [(("", "2008 IS Code", "criterion", "attained", "required", "margin", ""), "bold"), *((row, "normal") for row in rows)]:
+    columns = (16, 60, 110, 440, 610, 730, 895)
+    for row, weight in [(("", "Code", "criterion of the 2008 IS Code, part A", "attained", "required", "margin", "mark"), "bold"), *((row, "normal") for row in rows)]:
         parts += [f'<text x="{x}" y="{y}" font-size="11.5" font-weight="{weight}">{text}</text>' for x, text in zip(columns, row)]
         y += 19
     return picture(width, y, parts, "sheet")

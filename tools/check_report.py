@@ -6,8 +6,8 @@
 Reads the three files anew, cuts the hull's tetrahedra at waterplanes by the definitions of docs/DEFINITIONS.md, and holds
 each line of the report against what comes of it. A figure is to contain the exact value at each waterplane that is
 tried; the two levels of a draft bracket are to have the displaced volume between them, the four of a damage box the
-moments; marks and verdict are to follow from the printed figures. It shares no code with the program, nor with the other
-tools. Needs Python 3.11 or later; a big report takes minutes.
+moments; marks and verdict are to follow from the printed figures. It shares no code with the program, and reads
+and computes with none of the other tools. Needs Python 3.11 or later; a big report takes minutes.
 
 Of the heels, nine planes are tried at 0, 30, 60 and 90 degrees (both levels and one between, both ends of the degree's bracket
 and a direction between), and two at each other degree; with --all nine at every degree. --status is the exit code that
@@ -31,6 +31,7 @@ from typing import NamedTuple
 
 sys.dont_write_bytecode = True
 
+import output  # noqa: E402
 import printed_marks  # noqa: E402
 from exact_hull import GRID, UPRIGHT, Hull, Unread, bracket_of, read_stations, section  # noqa: E402
 from report_text import printed, read_lines  # noqa: E402
@@ -126,14 +127,14 @@ class Checks:
         self.counts[kind] += 1
         if not is_right:
             self.failed[kind] += 1
-            self.failures.append((line.number if line else 0, text if callable(text) is False else text()))
+            self.failures.append((line.number if line else 0, text() if callable(text) else text))
 
 
 class Examiner:
     """Holds the lines of one report against a job and a hull."""
 
-    def __init__(self, job, hull, lines, is_dense=lambda degree: degree in SPARSE):
-        self.job, self.hull, self.lines, self.is_dense = job, hull, lines, is_dense
+    def __init__(self, job, hull, lines, is_dense=lambda degree: degree in SPARSE, tell=lambda text: None):
+        self.job, self.hull, self.lines, self.is_dense, self.tell = job, hull, lines, is_dense, tell
         self.checks, self.begun, self.said = Checks(), time.monotonic(), time.monotonic()
         self.table = {}
         for line in lines:
@@ -154,7 +155,7 @@ class Examiner:
         now = time.monotonic()
         if now - self.said >= PACE:
             self.said = now
-            print(f"line {line.number} of {len(self.lines)}, {now - self.begun:.0f} s", file=sys.stderr, flush=True)
+            self.tell(f"line {line.number} of {len(self.lines)}, {now - self.begun:.0f} s")
 
     def run(self, status=None):
         for line in self.lines_in_place():
@@ -474,7 +475,8 @@ def main():
         if lines and lines[0].name == "hullcert" and lines[0].fields[1] == "make":
             raise Unread(f"{given.report}: line 1: a report of make has no job and no offsets; it isn't checked")
         is_dense = (lambda degree: True) if given.all else (lambda degree: degree in SPARSE)
-        examiner = Examiner(read_job(given.job), Hull(read_stations(given.offsets)), lines, is_dense)
+        tell = lambda text: print(text, file=sys.stderr, flush=True)  # noqa: E731
+        examiner = Examiner(read_job(given.job), Hull(read_stations(given.offsets)), lines, is_dense, tell)
         checks = examiner.run(given.status)
     except Unread as why:
         print(why, file=sys.stderr)
@@ -484,4 +486,4 @@ def main():
 
 
 if __name__ == "__main__":
-    sys.exit(main())
+    output.run(main)

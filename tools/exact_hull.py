@@ -191,8 +191,8 @@ def pieces(weight, corners):
     for i, j in EDGES:
         p, q = corners[i], corners[j]
         if (p[0] > 0 > q[0]) or (p[0] < 0 < q[0]):
-            part = Fraction(p[0]) / (p[0] - q[0])
-            crossing = (0, *(a + part * (b - a) for a, b in zip(p[1:], q[1:])))
+            part = Fraction(p[0], p[0] - q[0])
+            crossing = (0, *(Fraction(b * p[0] - a * q[0], p[0] - q[0]) for a, b in zip(p[1:], q[1:])))
             yield from pieces(weight * (1 - part), corners[:i] + (crossing,) + corners[i + 1:])
             yield from pieces(weight * part, corners[:j] + (crossing,) + corners[j + 1:])
             return
@@ -266,7 +266,7 @@ class Hull:
     def depth_by(self, direction, a, f):
         """The depth of a point below a waterplane whose levels are a and f in mm, times a number above 0 that is the same for all."""
         a, f = Fraction(a), Fraction(f)
-        length, parts = self.last_x - self.first_x, math.lcm(a.denominator, f.denominator)
+        length, parts = 1 if a == f else self.last_x - self.first_x, math.lcm(a.denominator, f.denominator)
         base, rise, scale = int(a * parts) * length * direction.r, int((f - a) * parts) * direction.r, parts * length
         rise_at = functools.lru_cache(None)(lambda x: base + rise * (x - self.first_x))
         c, s = direction.c * scale, direction.s * scale

@@ -19,16 +19,23 @@ import subprocess
 import sys
 import tempfile
 import unittest
+from decimal import Decimal
+from xml.etree import ElementTree
 
 sys.dont_write_bytecode = True
 
+import booklet_criteria  # noqa: E402
 import check_input  # noqa: E402
+import check_report  # noqa: E402
+import exact_hull  # noqa: E402
 import flood_pictures  # noqa: E402
 import offset_rows  # noqa: E402
 import refusal_hints  # noqa: E402
 import refusal_texts  # noqa: E402
 import report_lines  # noqa: E402
 import report_svg  # noqa: E402
+import report_text  # noqa: E402
+import ship_job  # noqa: E402
 
 TOP = pathlib.Path(__file__).resolve().parent.parent
 TOOLS = TOP / "tools"
@@ -942,7 +949,7 @@ class Everything(Room):
         report, content = self.file("report", REPORT), self.file("table.csv", "x,WL 0,WL 1000\n0,100,200\n1000,100,200\n")
         for words in [
             ["explain", "refused usage"], ["report_csv.py", report], ["report_svg.py", report], ["table_to_offsets.py", content],
-            ["wigley.py", "offsets", "3", "2"], ["check_input.py", TOP / "examples/barge.toml", TOP / "examples/barge.csv"],
+            ["wigley.py", "offsets", "3", "2"], ["booklet.py", report], ["check_input.py", TOP / "examples/barge.toml", TOP / "examples/barge.csv"],
         ]:
             with self.subTest(words), open("/dev/full", "w") as full:
                 done = self.tool(*words, stdout=full, stderr=subprocess.PIPE, capture_output=False)
@@ -1026,6 +1033,183 @@ class Criteria(Room):
     def test_gm_at_its_limit(self):
         criterion, mass, height, moments = GM_LIMIT
         self.assertEqual([self.mark(criterion, mass, height, moment) for moment in moments], ["holds", "fails"])
+
+
+# ---- The booklet and the check of a report
+
+BARGE, BARGE_JOB = TOP / "examples" / "barge.csv", TOP / "examples" / "barge.toml"
+
+
+def report_of(name, job, offsets):
+    """A right report: that of the built program, else the one that is kept."""
+    if PROGRAM.exists():
+        return run([PROGRAM, "all", job, offsets]).stdout
+    return (TOP / "docs" / f"{name}.txt").read_text(encoding="ascii")
+
+
+class Booklet(Room):
+    def booklet(self, report, *words):
+        done = self.tool("booklet.py", self.file("ship.txt", report), *words)
+        self.assertEqual((done.returncode, done.stderr), (0, ""))
+        return ElementTree.fromstring(done.stdout.removeprefix("<!DOCTYPE html>\n"))
+
+    @unittest.skipUnless(check_input.tomllib, "jobs are read with Python 3.11 or later")
+    def test_the_cargo_ship(self):
+        report = report_of("cargo", CARGO_JOB, CARGO)
+        page = self.booklet(report, "--offsets", CARGO, "--job", CARGO_JOB)
+        text = "".join(page.itertext())
+        cells = [cell.text for cell in page.iter("code")]
+        figures = {word for line in report.splitlines() for word in line.split() if word.startswith("[")}
+        self.assertGreater(len(figures), 300)
+        self.assertEqual([figure for figure in figures if figure not in text], [])
+        tables = " ".join("".join(cell.itertext()) for cell in page.iter("td"))
+        shown = [line for line in report.splitlines() if line.split()[0] in ("hydro", "section", "load", "upright")]
+        shown += [line for line in report.splitlines() if re.match(r"(cross [0-9]+|arm) [0-9]*[05] ", line)]
+        for word in (word for line in shown for word in line.split() if word.startswith("[")):
+            self.assertIn(word, tables)
+        for said in ("Verdict: pass", "102.000 m", "18.000 m", "fuel_p", "forehold", "hullcert 1 all", "2.2.3", "holds"):
+            self.assertIn(said, text)
+        self.assertEqual([len(cell) for cell in cells], [64] * 3)
+        titles = [heading.text for heading in page.iter("h2")]
+        self.assertEqual(titles, [
+            "Hydrostatic table", "Bonjean curves", "Cross curves", "Loading", "Intact stability", "Drafts of the damaged ship",
+            "Floodable lengths", "The report",
+        ])
+        self.assertEqual([name for name in ("script", "link", "img") if list(page.iter(name))], [])
+
+    def test_reports_of_one_table(self):
+        for report, titles in [(REPORT, ["Hydrostatic table"]), (FLOODABLE, ["Loading", "Floodable lengths"]), (GAP, ["Loading", "Floodable lengths"])]:
+            found = [heading.text for heading in self.booklet(report).iter("h2")]
+            self.assertEqual(found, [*titles, "The report"])
+        self.assertIn("no waterline was found", "".join(self.booklet(LOST).itertext()))
+
+    def test_both_sides_of_a_job_of_version_2(self):
+        arms = "".join(
+            f"arm {k} 1 2 [0.{k:02}0000,0.{k:02}0001] [0.0{k:02}000,0.0{k:02}001] [-0.100001,-0.100000] [-0.200000,-0.199999]\n" for k in range(91)
+        )
+        marks = "".join(f"mark C{n} fails\n" for n in range(1, 7))
+        report = (
+            "hullcert 2 stability\nhull 3 6\nbody 120\nload 10 [1.000000,1.000000] [2.000000,2.000001] [3.000000,3.000000]\n"
+            f"upright 1 2 [2.000000,2.000001] [3.000000,3.000001] [0.100000,0.100001]\n{arms}{marks}"
+            "verdict fail C1 port interval 30 [0.030000,0.030001]\nend 104\n"
+        )
+        text = " ".join(self.booklet(report).itertext())
+        for said in ("Verdict:  fail", "C1, port, at 30 degrees", "TCG, m", "GZ to starboard, m", "starboard", "[-0.255000, -0.254999]"):
+            self.assertIn(said, text)
+
+    def test_short_forms(self):
+        for word, short in [
+            ("[1.750529,1.750531]", "1.750"), ("[1.999999,2.000001]", "2.000"), ("[-0.000001,0.000001]", "0.000"), ("[1.2,1.9]", "1"),
+            ("[-0.084384,-0.084377]", "-0.084"), ("[99.500000,100.600000]", ""), ("[7.000000,7.000000]", "7.000"), ("[1.120000,1.180000]", "1.1"),
+        ]:
+            self.assertEqual(booklet_criteria.short(word), short, word)
+
+    def test_the_picture_of_levers(self):
+        report = self.file("ship.txt", report_of("cargo", CARGO_JOB, CARGO))
+        done = self.tool("booklet.py", report, "--gz")
+        self.assertEqual(done.returncode, 0)
+        self.assertIn("verdict pass", "".join(ElementTree.fromstring(done.stdout).itertext()))
+        self.assertEqual(self.tool("booklet.py", self.file("hydro.txt", REPORT), "--gz").returncode, 1)
+
+    def test_files_that_are_no_reports(self):
+        for content, said in [("refused usage\n", "refused usage"), ("hullcert 1 hydro\nx\n", "line 2"), ("", "empty")]:
+            done = self.tool("booklet.py", self.file("report", content))
+            self.assertEqual((done.returncode, done.stdout, said in done.stderr), (1, "", True))
+        text = "".join(ElementTree.fromstring(self.tool("booklet.py", self.file("cut", REPORT.replace("end 6\n", ""))).stdout.split("\n", 1)[1]).itertext())
+        self.assertIn("it was cut", text)
+
+
+def turned(word):
+    """A word with another digit: both ends of a figure 0.003 higher, or the last digit of a number."""
+    if word.startswith("["):
+        return f"[{','.join(str(Decimal(end) + Decimal('0.003')) for end in word[1:-1].split(','))}]"
+    return word[:-1] + str((int(word[-1]) + 3) % 10)
+
+
+def moved(by):
+    return lambda word: str(int(word) + by)
+
+
+# What is planted: the beginning of a line, the words of it that are changed, and how.
+PLANTED = [
+    ("body", [1], turned), ("hull ", [2], turned), ("hydro 5000 ", [2], turned), ("hydro 5000 ", [10], turned),
+    ("hydro 5000 ", [7], lambda word: "-"), ("hydro 12000 ", [7], lambda word: "[50.000000,50.000000]"),
+    ("section 1 50000 5000 ", [4], turned), ("section 1 50000 5000 ", [5], lambda word: "[249.999999999,250.000000000]"),
+    ("cross 10250000 30 ", [5], turned), ("cross 10250000 30 ", [3, 4], moved(7)), ("cross 10250000 57 ", [3, 4], moved(-7)),
+    ("load ", [3], turned), ("load ", [1], moved(1000)), ("upright", [1], moved(-60)), ("upright", [5], turned),
+    ("arm 45 ", [4], turned), ("arm 31 ", [5], turned), ("arm 0 ", [2], moved(-60)), ("arm 64 ", [2, 3], moved(9)),
+    ("mark C4 ", [2], lambda word: "fails"), ("mark C6 ", [2], lambda word: "unsure"),
+    ("verdict ", [1], lambda word: "fail C4 interval 40 [0.100000,0.100001]"),
+    ("damage 1 ", [2, 3], moved(9)), ("damage 1 ", [5], moved(90)), ("safe 50000 ", [2], moved(100)), ("safe 50000 ", [3], moved(9)),
+    ("next 50000 ", [4], moved(1)), ("next 50000 ", [2], moved(100)), ("end ", [1], moved(1)),
+]
+
+
+@unittest.skipUnless(ship_job.tomllib, "jobs are read with Python 3.11 or later")
+class CheckReport(Room):
+    @classmethod
+    def setUpClass(cls):
+        cls.job, cls.hull = ship_job.read_job(BARGE_JOB), exact_hull.Hull(exact_hull.read_stations(BARGE))
+        cls.report = report_of("barge", BARGE_JOB, BARGE)
+
+    def failures(self, report, status=None):
+        lines = report_text.read_lines(self.file("report", report))
+        return check_report.Examiner(self.job, self.hull, lines).run(status).failures
+
+    def test_a_right_report(self):
+        self.assertEqual(self.failures(self.report, 0), [])
+        self.assertEqual([text for _, text in self.failures(self.report, 1)], ["the exit code is 1, and is to be 0"])
+
+    def test_planted_errors_are_found(self):
+        lines = self.report.splitlines()
+        for start, places, change in PLANTED:
+            at = next(at for at, line in enumerate(lines) if line.startswith(start))
+            words = lines[at].split(" ")
+            for place in places:
+                words[place] = change(words[place])
+            with self.subTest(start=start, places=places):
+                self.assertNotEqual(" ".join(words), lines[at])
+                found = self.failures("\n".join([*lines[:at], " ".join(words), *lines[at + 1:], ""]))
+                self.assertIn(at + 1, [number for number, _ in found] if start != "safe 50000 " else [at + 1] if found else [])
+
+    def test_lines_that_are_missing_or_change_places(self):
+        lines = self.report.splitlines()
+        at = next(at for at, line in enumerate(lines) if line.startswith("arm 17 "))
+        for planted in (
+            [*lines[:at], *lines[at + 1:]], [*lines[:at], lines[at + 1], lines[at], *lines[at + 2:]], [*lines[:at], lines[at], *lines[at:]],
+        ):
+            self.assertTrue({at + 1, at + 2} & {number for number, _ in self.failures("\n".join([*planted, ""]))})
+
+    def test_words_and_faults(self):
+        report = self.file("report.txt", "hullcert 1 damage\n" + "".join(
+            line + "\n" for line in self.report.splitlines() if line.split()[0] in ("hull", "body", "load", "damage")
+        ) + "end 6\n")
+        done = self.tool("check_report.py", BARGE_JOB, BARGE, report)
+        self.assertEqual((done.returncode, done.stderr), (0, ""))
+        self.assertRegex(done.stdout, r"damage boxes +5 checked, 0 failed")
+        self.assertIn(" checks, 0 failed", done.stdout)
+        done = self.tool("check_report.py", BARGE_JOB, BARGE, self.file("bad.txt", report.read_text().replace("body 12", "body 13")))
+        self.assertEqual(done.returncode, 1)
+        self.assertIn("line 3: six times the volume is 130000000000000, and is to be 120000000000000", done.stdout)
+        for words, said in [
+            ((BARGE_JOB, BARGE, self.file("a", "refused usage\n")), "line 1: refused usage"),
+            ((BARGE_JOB, BARGE, self.file("b", "hullcert 1 hydro\nhull 3\n")), "line 2: outside the grammar"),
+            ((BARGE_JOB, BARGE, self.file("c", "hullcert 1 hydro\nhull 3 6")), "line 2: the last line has no line feed"),
+            ((BARGE_JOB, self.file("d", "0,1,2\n0,1\n"), report), "line 2: not three whole numbers"),
+            ((self.file("e", "version = 1\ndensity = x\n"), BARGE, report), "line 2"),
+            ((self.file("f", "version = 1\n"), BARGE, report), "there is no 'density'"),
+            ((BARGE_JOB, BARGE, self.room / "none"), "No such file"),
+        ]:
+            done = self.tool("check_report.py", *words)
+            self.assertEqual((done.returncode, done.stdout, said in done.stderr), (1, "", True), done.stderr)
+
+    def test_worked_values(self):
+        upright = self.hull.integrals(exact_hull.UPRIGHT, 5000, 5000)
+        self.assertEqual((upright.volume, upright.x, upright.y, upright.z), (10 ** 13, 5 * 10 ** 17, 0, 25 * 10 ** 15))
+        self.assertEqual(self.hull.lid(10000).area, 2 * 10 ** 9)
+        self.assertEqual(self.hull.left(5000, 5000, [(90000, 100000, 1000)]), (9 * 10 ** 12, 405 * 10 ** 15))
+        self.assertEqual((len(self.hull.faces), self.hull.six), (32, 12 * 10 ** 13))
+
 
 
 def counted(result, after):
