@@ -201,7 +201,7 @@ def pieces(weight, corners):
 
 
 class Integrals(NamedTuple):
-    """The volume, and the integrals of x, y and z over it."""
+    """The volume, and the integrals of x, y and z over it; that of x, which levers don't need, is None where the ship heels."""
 
     volume: Fraction
     x: Fraction
@@ -218,14 +218,15 @@ class Lid(NamedTuple):
     xx: Fraction
 
 
-def integrals_of(found):
+def integrals_of(found, has_x):
     """Those of pieces, each with six times its volume and its corners."""
     sums = [[], [], [], []]
     for weight, corners in found:
         sums[0].append(weight * 4)
-        for axis in (1, 2, 3):
+        for axis in range(1 if has_x else 2, 4):
             sums[axis].append(weight * sum(corner[axis] for corner in corners))
-    return Integrals(*(exact_sum(terms) / 24 for terms in sums))
+    volume, x, y, z = (exact_sum(terms) / 24 for terms in sums)
+    return Integrals(volume, x if has_x else None, y, z)
 
 
 def lid_of(found):
@@ -289,7 +290,7 @@ class Hull:
 
     @functools.lru_cache(None)
     def integrals(self, direction, a, f, slab=None):
-        return integrals_of(self.below(direction, a, f, slab))
+        return integrals_of(self.below(direction, a, f, slab), direction.s == 0)
 
     @functools.lru_cache(None)
     def lid(self, level):

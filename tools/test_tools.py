@@ -20,6 +20,7 @@ import sys
 import tempfile
 import unittest
 from decimal import Decimal
+from fractions import Fraction
 from xml.etree import ElementTree
 
 sys.dont_write_bytecode = True
@@ -30,6 +31,7 @@ import check_report  # noqa: E402
 import exact_hull  # noqa: E402
 import flood_pictures  # noqa: E402
 import offset_rows  # noqa: E402
+import printed_marks  # noqa: E402
 import refusal_hints  # noqa: E402
 import refusal_texts  # noqa: E402
 import report_lines  # noqa: E402
@@ -1126,6 +1128,13 @@ def turned(word):
     return word[:-1] + str((int(word[-1]) + 3) % 10)
 
 
+def shifted(word, by):
+    """A figure moved by a fraction, and rounded outwards a little more than is needed."""
+    figure = report_text.figure_of(word, 6)
+    slack = Fraction(1, 10 ** 6)
+    return str(report_text.printed(figure.low + by - slack, figure.high + by + slack))
+
+
 def moved(by):
     return lambda word: str(int(word) + by)
 
@@ -1152,9 +1161,11 @@ class CheckReport(Room):
         cls.job, cls.hull = ship_job.read_job(BARGE_JOB), exact_hull.Hull(exact_hull.read_stations(BARGE))
         cls.report = report_of("barge", BARGE_JOB, BARGE)
 
+    def lines_of(self, report):
+        return report_text.read_lines(self.file("report", report))
+
     def failures(self, report, status=None):
-        lines = report_text.read_lines(self.file("report", report))
-        return check_report.Examiner(self.job, self.hull, lines).run(status).failures
+        return check_report.Examiner(self.job, self.hull, self.lines_of(report)).run(status).failures
 
     def test_a_right_report(self):
         self.assertEqual(self.failures(self.report, 0), [])
@@ -1179,6 +1190,46 @@ class CheckReport(Room):
             [*lines[:at], *lines[at + 1:]], [*lines[:at], lines[at + 1], lines[at], *lines[at + 2:]], [*lines[:at], lines[at], *lines[at:]],
         ):
             self.assertTrue({at + 1, at + 2} & {number for number, _ in self.failures("\n".join([*planted, ""]))})
+
+    def report_off_centre(self, offset):
+        """The right report of the barge with its centre so many mm to starboard: levers and areas differ by turns of that."""
+        lines = []
+        for line in self.report.splitlines():
+            name, *words = line.split(" ")
+            if name == "load":
+                words.insert(2, f"[{offset / 1000:.6f},{offset / 1000:.6f}]")
+            if name == "arm":
+                cosine, sine = (sum(span) / 2 * offset / 1000 for span in exact_hull.spans_of(exact_hull.bracket_of(int(words[0]))))
+                figures = zip(words[3:5] * 2, (cosine, sine, -cosine, -sine))
+                words[3:] = [shifted(word, by) if by else word for word, by in figures]
+            lines.append(" ".join([name, *words]))
+        return lines
+
+    def test_both_sides_of_a_job_of_version_2(self):
+        at_centre = "\n".join([*self.report_off_centre(0), ""]).replace("hullcert 1", "hullcert 2", 1)
+        job = self.job._replace(version=2)
+        self.assertEqual(check_report.Examiner(job, self.hull, self.lines_of(at_centre)).run().failures, [])
+        job = job._replace(items=[{**self.job.items[0], "y": 1000}])
+        lines = self.report_off_centre(1000)
+        area = next(line.split(" ")[7] for line in lines if line.startswith("arm 30 "))
+        lines = [re.sub("mark C([12]) .*", r"mark C\1 fails", line) for line in lines if not line.startswith("end")]
+        lines = [f"verdict fail C1 starboard interval 30 {area}" if line.startswith("verdict") else line for line in lines]
+        text = "\n".join([*lines, f"end {len(lines) + 1}", ""]).replace("hullcert 1", "hullcert 2", 1)
+        self.assertEqual(check_report.Examiner(job, self.hull, self.lines_of(text)).run(1).failures, [])
+        for planted in (text.replace(" starboard ", " port "), text.replace("C1 starboard ", "C1 "), text.replace("mark C5 holds", "mark C5 fails")):
+            found = check_report.Examiner(job, self.hull, self.lines_of(planted)).run(1).failures
+            self.assertTrue(found)
+
+    def test_an_opening_at_the_edge_of_the_deck(self):
+        job = self.job._replace(openings=[(10000, 10000)])
+        levels = {int(words[1]): (int(words[2]), int(words[3])) for words in map(str.split, self.report.splitlines()) if words[0] == "arm"}
+        leaks = printed_marks.Leaks(job.openings, levels)
+        self.assertEqual((leaks.most, leaks.candidates), (26, [26]))
+        depth = report_text.printed(*(end / 1000 for end in leaks.depth(0, 27)))
+        text = self.report.replace("mark C3 holds", "mark C3 fails").replace("verdict pass", f"verdict fail C3 leak 1 27 {depth}")
+        self.assertEqual(check_report.Examiner(job, self.hull, self.lines_of(text)).run(1).failures, [])
+        for planted in (text.replace("leak 1 27", "leak 1 28"), text.replace(f"27 {depth}", "27 [0.000001,0.000002]"), self.report):
+            self.assertEqual(len(check_report.Examiner(job, self.hull, self.lines_of(planted)).run().failures), 1)
 
     def test_words_and_faults(self):
         report = self.file("report.txt", "hullcert 1 damage\n" + "".join(
