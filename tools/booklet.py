@@ -37,6 +37,10 @@ try:
 except ImportError:  # before Python 3.11
     tomllib = None
 
+UNKNOWN = (
+    "Without --job the openings aren't known: if one is under water before 40 degrees, C2 and C3 count to a smaller degree, and "
+    "the marks say so."
+)
 STYLE = """
 @page { size: A4; margin: 16mm 14mm; }
 * { box-sizing: border-box; }
@@ -99,15 +103,17 @@ def flooding_of(lines, job):
     """The degree up to which C2 and C3 count, how it is said, and a note."""
     arms = sorted((int(words[1]), (int(words[2]), int(words[3]))) for words in lines if words[0] == "arm")
     if job is None or len(arms) != 91:
-        return (40, "40°"), "Without --job the openings aren't known: if one is under water before 40 degrees, C2 and C3 count to a smaller degree, and the marks say so."
+        return (40, "40°"), UNKNOWN
     openings = [(opening["y"], opening["z"]) for opening in job.get("opening", [])]
     leaks = printed_marks.Leaks(openings, [found for _, found in arms])
     if leaks.most == 40 and len(leaks.candidates) == 1:
         return (40, "40°"), f"None of the {len(openings)} openings of the job is under water up to 40 degrees."
     if len(leaks.candidates) > 1:
-        said = f"The degree of downflooding is one of {', '.join(map(str, leaks.candidates))}; the areas here are to the greatest, the marks take all."
-        return (leaks.most, f"{leaks.most}° (downflooding)"), said
-    return (leaks.most, f"{leaks.most}° (downflooding)"), f"An opening of the job is under water at {leaks.most + 1} degrees: areas count to {leaks.most}."
+        degrees = ", ".join(map(str, leaks.candidates))
+        said = f"The degree of downflooding is one of {degrees}; the areas here are to the greatest, the marks take all."
+    else:
+        said = f"An opening of the job is under water at {leaks.most + 1} degrees: areas count to {leaks.most}."
+    return (leaks.most, f"{leaks.most}° (downflooding)"), said
 
 
 def sums_of(names):
@@ -119,7 +125,10 @@ def sums_of(names):
 def page(title, subtitle, parts):
     head = f'<meta charset="utf-8"/><title>{html.escape(title)}</title><style>{STYLE}</style>'
     top = f"<h1>{html.escape(title)}</h1><p>{html.escape(subtitle)}</p>"
-    foot = "<footer>Made by tools/booklet.py of hullcert from the files named on the first page. It draws and arranges; the figures are the report’s.</footer>"
+    foot = (
+        "<footer>Made by tools/booklet.py of hullcert from the files named on the first page. It draws and arranges; the figures are "
+        "the report’s.</footer>"
+    )
     return "\n".join(["<!DOCTYPE html>", f'<html lang="en"><head>{head}</head><body>', top, *parts, foot, "</body></html>", ""])
 
 
@@ -129,7 +138,8 @@ def gz_rows(rows):
         name = f"{row.criterion}{' ' + row.side if row.side else ''}"
         asked = f"≥ {row.required}" if row.required[0].isdigit() else "≥ before 25°"
         text = row.text.split(";")[0]
-        yield tuple(map(html.escape, (name, booklet_criteria.PARAGRAPHS[row.criterion], text, str(row.attained or "–"), asked, str(row.margin or "–"), row.mark)))
+        paragraph, attained, margin = booklet_criteria.PARAGRAPHS[row.criterion], str(row.attained or "–"), str(row.margin or "–")
+        yield tuple(map(html.escape, (name, paragraph, text, attained, asked, margin, row.mark)))
 
 
 def gz_sheet(lines, rows, name):
@@ -145,7 +155,8 @@ def booklet(given, lines, job, rows, note):
     stations = report_svg.stations_of(given.offsets, lines) if given.offsets else []
     others = booklet_pages.other_lines(lines)
     title = f"Hydrostatics and stability: {pathlib.Path(given.offsets or given.report).stem}"
-    subtitle = "A booklet of certified intervals, from a report of hullcert" + (f"; lines {', '.join(others)} stand at the end alone" if others else "")
+    subtitle = "A booklet of certified intervals, from a report of hullcert"
+    subtitle += f"; lines {', '.join(others)} stand at the end alone" if others else ""
     parts = [
         *booklet_pages.front(lines, stations, job, sums_of([given.report, given.offsets, given.job]), report_lines.lack_of(lines)),
         *booklet_pages.hydrostatics(lines, stations),

@@ -87,7 +87,7 @@ def area_rows(side, flooding, marks):
         between = areas[degree] - areas[30] if degree > 30 else exactly("0.000000")
         yield row("C3", side.side, f"area from 30° to {said}, m·rad", between, "0.03", marks)
     else:
-        yield Row("C3", side.side, f"area from 30° to {said}: an opening is under sooner", None, "0.03", None, marks.get("C3", "-"))
+        yield Row("C3", side.side, f"area from 30° on: an opening is under at {degree + 1}° already", None, "0.03", None, marks.get("C3", "-"))
 
 
 def lever_rows(side, marks):

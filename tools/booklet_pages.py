@@ -167,7 +167,10 @@ def cross(lines):
     parts = ["<h3>KN over heel</h3>", booklet_plots.kn_over_heel(rows)]
     if len(rows) > 1:
         parts += ["<h3>KN over displacement, at 5, 10, .., 90 degrees</h3>", booklet_plots.kn_over_displacement(rows)]
-    parts.append('<p class="note">Lines join the middles of the report’s intervals; between displacements and between whole degrees nothing is certified.</p>')
+    parts.append(
+        '<p class="note">Lines join the middles of the report’s intervals; between displacements and between whole degrees nothing is '
+        "certified.</p>"
+    )
     parts.append('<h3 class="page">KN in m</h3>')
     for masses in chunks(sorted(rows), WIDE):
         heads = ["heel", *(f"{mass} kg" for mass in masses)]
@@ -189,7 +192,7 @@ def loading(lines, job):
     if items:
         heads = ["item", "mass, kg", "x, mm", *(["y, mm"] if is_sided else []), "z, mm", "free surface, kg·m"]
         body = [
-            [text(item.get("name", "")), item.get("mass", 0), item.get("x", 0), *([item.get("y", 0)] if is_sided else []), item.get("z", 0), item.get("free_surface", 0)]
+            [text(item.get("name", "")), *(item.get(key, 0) for key in ("mass", "x", *(["y"] if is_sided else []), "z", "free_surface"))]
             for item in items
         ]
         sums = [sum(item.get(key, 0) for item in items) for key in ("mass", "free_surface")]
@@ -197,7 +200,8 @@ def loading(lines, job):
     heads = ["mass, kg", "LCG, m", *(["TCG, m"] if is_sided else []), "KG with free surfaces, m"]
     parts.append(table(heads, [[text(load[1]), *map(cell, load[2:])]], "figures"))
     if upright:
-        parts.append(table(["floats upright between the levels", "KB, m", "BM, m", "GM, m"], [[levels(upright[1:3]), *map(cell, upright[3:])]], "figures"))
+        heads = ["floats upright between the levels", "KB, m", "BM, m", "GM, m"]
+        parts.append(table(heads, [[levels(upright[1:3]), *map(cell, upright[3:])]], "figures"))
     return chapter("Loading", *parts)
 
 
@@ -245,10 +249,12 @@ def stability(lines, rows, note):
     panels = [booklet_plots.panel(curve, frames[report_svg.family_of(name)]) for name, curve in curves.items()]
     parts = [verdict_box(verdict)] if verdict else []
     if rows:
-        parts += [criteria_table(rows), f'<p class="note">{text(note)}</p>']
+        sides = " The mark in the last column is that of both sides together." if rows[0].side else ""
+        parts += [criteria_table(rows), f'<p class="note">{text(note + sides)}</p>']
     parts += ['<div class="panels two">', *panels, f'</div><p class="note">{text(" ".join(report_svg.LIMITS))}</p>']
     sided = len(arms[0]) == 8
-    heads = ["heel", "levels: mm, and 1/1024 mm", *(["GZ to port, m", "area", "GZ to starboard, m", "area"] if sided else ["GZ, m", "area from upright, m·rad"])]
+    figures = ["GZ to port, m", "area, m·rad", "GZ to starboard, m", "area, m·rad"] if sided else ["GZ, m", "area from upright, m·rad"]
+    heads = ["heel", "levels: mm, and 1/1024 mm", *figures]
     body = [[f"{words[1]}°", levels(words[2:4]), *map(cell, words[4:])] for words in arms if int(words[1]) % 5 == 0]
     parts += ['<h3 class="page">Righting levers</h3>', table(heads, body, "figures")]
     parts.append('<p class="note">All degrees stand in the report at the end.</p>')
@@ -291,7 +297,8 @@ def damage(lines, stations, job):
     notes = dict.fromkeys(note for picture in pictures.values() for note in picture.notes)
     return chapter(
         "Drafts of the damaged ship",
-        "<p>The compartments of a case are open to the sea, as lost buoyancy; the ship is upright. What is balanced are moments along the ship.</p>",
+        "<p>The compartments of a case are open to the sea, as lost buoyancy; the ship is upright. What is balanced are moments along "
+        "the ship.</p>",
         table(["case", "name", "what floods", "draft at the first station (aft)", "draft at the last station"], body, "figures"),
         '<div class="panels two">',
         *(booklet_plots.panel(picture, frame) for picture in pictures.values()),

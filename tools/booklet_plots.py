@@ -234,7 +234,8 @@ def gz_sheet(curves, title, rows):
         parts += [f'<g transform="translate({place})">', *report_svg.panel_of(curves[name], frames[report_svg.family_of(name)]).parts(), "</g>"]
     y = top + -(-len(names) // 2) * report_svg.HEIGHT + 18
     columns = (16, 60, 110, 440, 610, 730, 895)
-    for row, weight in [(("", "Code", "criterion of the 2008 IS Code, part A", "attained", "required", "margin", "mark"), "bold"), *((row, "normal") for row in rows)]:
+    heads = ("", "Code", "criterion of the 2008 IS Code, part A", "attained", "required", "margin", "mark")
+    for row, weight in [(heads, "bold"), *((row, "normal") for row in rows)]:
         parts += [f'<text x="{x}" y="{y}" font-size="11.5" font-weight="{weight}">{text}</text>' for x, text in zip(columns, row)]
         y += 19
     return picture(width, y, parts, "sheet")

@@ -456,7 +456,8 @@ def said(checks, is_all, has_heels):
         yield f"{kind:{width}}  {count:6} checked, {checks.failed[kind]} failed"
     if has_heels:
         few = ", ".join(map(str, SPARSE))
-        yield "heels: nine planes at every degree" if is_all else f"heels: nine planes at {few} degrees, two at each other degree (--all: nine at all)"
+        sampled = f"nine planes at {few} degrees, two at each other degree (--all: nine at all)"
+        yield f"heels: {'nine planes at every degree' if is_all else sampled}"
     for kind, count in checks.left_out.items():
         yield f"not checked: {count} answers {kind}"
     yield f"{sum(checks.counts.values())} checks, {len(checks.failures)} failed"

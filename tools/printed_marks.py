@@ -205,6 +205,8 @@ def interval_faults(call, criterion, fields, rules):
         return [f"the interval doesn't {'fail' if call == 'fail' else 'leave open'} the limit {float(limit)}"]
     if criterion in ("c2", "c3") and call == "fail" and degree != leaks.most:
         return [f"the greatest degree of downflooding is {leaks.most}"]
+    if call == "undecided" and criterion in ("c2", "c3") and any(k < degree for k in straddling(criterion, rules)):
+        return ["a smaller degree of downflooding leaves the limit open already"]
     if criterion == "c3":
         ends = side.between(degree)
         fits = ends.low <= figure.low + figure.unit and figure.low <= ends.low_below
@@ -213,6 +215,15 @@ def interval_faults(call, criterion, fields, rules):
     expected = {"c1": side.areas, "c2": side.areas, "c4": side.levers}[criterion][degree] if criterion != "c6" else rules.gm
     faults = [] if figure == expected else [f"the figure at {degree} degrees is {expected}"]
     return faults + (lever_faults(call, degree, side) if criterion == "c4" else [])
+
+
+def straddling(criterion, rules):
+    """The degrees that the degree of downflooding may have at which the area certainly leaves the limit open."""
+    if criterion == "c2":
+        areas = [(k, ends_of(rules.side.areas[k])) for k in rules.leaks.candidates]
+    else:
+        areas = [(k, rules.side.between(k)) for k in rules.leaks.candidates if k >= 30]
+    return [k for k, ends in areas if ends.reaches(LIMITS[criterion]) is False and ends.stays_below(LIMITS[criterion]) is False]
 
 
 def lever_faults(call, degree, side):
@@ -239,6 +250,8 @@ def leak_faults(call, criterion, fields, rules):
     leaks = rules.leaks
     if criterion not in ("c2", "c3") or (call == "fail" and (criterion == "c2" or leaks.most >= 30)):
         return [f"no leak is shown of {criterion.upper()} here"]
+    if call == "undecided" and straddling(criterion, rules):
+        return ["an area leaves the limit open, and is to be shown"]
     expected = leaks.next_wet() if call == "fail" else leaks.first_open()
     if expected != (degree, opening - 1):
         return [f"the leak to be shown is {expected and (expected[1] + 1, expected[0])} (opening, degree)"]
