@@ -16,8 +16,8 @@ the program ended with, to be held against the verdict. REPORT is of any command
 Prints what failed, with the number of the report's line, and then how much was checked of each kind. Ends with 0 where
 nothing failed, else with 1; with 1 too where a file can't be read, with the number of its line.
 
-Not checked: how wide a figure is, but where it is determined (sections, loads) or the levels of a bracket or box could be
-moved inwards; values at waterplanes between those that are tried; why no start was found ("nostart"); marks where the
+Not checked: that a figure is narrower than its stated bound, which allows more than the program needs; widths of KB, BM and
+GM; values at waterplanes between those that are tried; why no start was found ("nostart"); marks where the
 printed places leave them open.
 """
 
@@ -33,6 +33,7 @@ sys.dont_write_bytecode = True
 
 import output  # noqa: E402
 import printed_marks  # noqa: E402
+import stated_widths  # noqa: E402
 from exact_hull import GRID, UPRIGHT, Hull, Unread, bracket_of, read_stations, section  # noqa: E402
 from report_text import printed, read_lines  # noqa: E402
 from ship_job import read_job  # noqa: E402
@@ -140,13 +141,18 @@ class Examiner:
         for line in lines:
             self.table.setdefault(line.name, []).append(line)
         self.arms = {line.fields[0]: line for line in self.table.get("arm", [])}
-        self.separations = {}
+        self.separations, self.bounds = {}, {}
 
     def expect(self, kind, line, is_right, text):
         self.checks.expect(kind, line, is_right, text)
 
     def holds(self, kind, line, name, figure, value):
         self.expect(kind, line, figure.holds(value), lambda: f"{name} {figure} doesn't contain {about(value)}, the exact value")
+
+    def narrow(self, line, name, figure, bound):
+        """That a figure is no wider than stated; to print it takes less than two units of its last place."""
+        is_narrow = figure.high - figure.low - 2 * figure.unit <= bound
+        self.expect("widths", line, is_narrow, lambda: f"{name} {figure} is wider than its bound, {about(bound)}")
 
     def is_equal(self, kind, line, name, found, expected):
         self.expect(kind, line, found == expected, lambda: f"{name} is {found}, and is to be {expected}")
@@ -216,15 +222,19 @@ class Examiner:
 
     def check_hydro(self, line):
         draft, *figures = line.fields
-        values, row = self.hydro_values(draft), dict(zip(HYDRO, figures))
+        values, row, right = self.hydro_values(draft), dict(zip(HYDRO, figures)), True
         for name, figure in row.items():
             lows = [row[divisor].low for divisor in DIVISORS.get(name, [])]
             if figure is None:
                 self.expect("hydro figures", line, any(low <= 0 for low in lows), f"{name} is absent, though it can be told")
             elif any(low < 0 for low in lows) or name not in values:
+                right = False
                 self.expect("hydro figures", line, False, f"{name} is there, though its divisor's interval begins below 0")
             else:
                 self.holds("hydro figures", line, name, figure, values[name])
+        if right:
+            for name, bound in stated_widths.hydro_widths(self.hull, self.job, draft, row, values).items():
+                self.narrow(line, name, row[name], bound)
 
     def check_section(self, line):
         at, _, draft, *figures = line.fields
@@ -250,7 +260,15 @@ class Examiner:
                 self.expect("draft brackets", line, below.volume >= need, "at the upper level the hull displaces less")
         if dense:
             self.sharp(line, degree, low, high, need)
+        elif low != high:
+            self.nearly_sharp(line, degree, need, found)
         return found
+
+    def nearly_sharp(self, line, degree, need, found):
+        """What sharpness leaves of the volumes at the levels: a level further in adds less than half the faces' areas times its rise."""
+        for plane, below in found:
+            width = self.hull.volume_width(bracket_of(degree), plane.level * GRID) + self.hull.half_areas / GRID
+            self.expect("sharp brackets", line, abs(below.volume - need) <= width, "a level could be moved inwards")
 
     def sharp(self, line, degree, low, high, need):
         """That neither level can be moved inwards, but for the width of the volume's interval."""
@@ -273,6 +291,7 @@ class Examiner:
         for plane, below in self.bracket(line, degree, low, high, need):
             c, s, r = plane.direction
             self.holds("KN", line, "KN", figure, (s * below.z - c * below.y) / r / need / MM)
+        self.narrow(line, "KN", figure, stated_widths.lever_width(self.hull, bracket_of(degree), (low, high), need, 0))
 
     def check_load(self, line):
         load = self.job.load()
@@ -300,6 +319,10 @@ class Examiner:
                 self.holds("GZ", line, "GZ", figure, (across - (s * load.z - side * c * load.y) / r) / MM)
             for side in (1, -1):
                 separations[side].append((c * load.z + side * s * load.y) / r - upwards)
+        bound = stated_widths.lever_width(self.hull, bracket_of(degree), (low, high), need, load.z + abs(load.y))
+        self.bounds[degree] = bound
+        for _, figure in levers:
+            self.narrow(line, "GZ", figure, bound)
         if degree == 0:
             self.separations = separations
         for side, figure in zip((1, -1), figures[1::2]):
@@ -312,6 +335,7 @@ class Examiner:
         elif here == upright and line.fields[0] == 0:
             self.is_equal("areas", line, "the area", str(figure), str(printed(0, 0)))
         else:
+            self.narrow(line, "the area", figure, self.bounds[line.fields[0]] + self.bounds[0])
             for value in (min(here) - max(upright), max(here) - min(upright)):
                 self.holds("areas", line, "the area", figure, value / MM)
 

@@ -310,9 +310,14 @@ class Hull:
         return Fraction(max(map(abs, levels)), GRID) + self.high_z + self.half_breadth
 
     def volume_width(self, bracket, *levels):
-        """How wide the program's interval of a volume may be at one plane whose levels are in grid units."""
+        """How wide the program's interval of a volume may be over a bracket at levels in grid units, without what they differ by."""
         turns = [high - low for low, high in spans_of(bracket)]
         return 8 * (self.half_areas + 2 ** 17) * (max(turns) * self.reach(*levels) + Fraction(1, 2 ** 16))
+
+    def lid_width(self):
+        """How wide the program's interval of a waterplane's area may be at one upright level, in mm²."""
+        flat = Fraction(sum(abs(az) for _, _, az in self.faces), 2)
+        return flat / 2 ** 32 + Fraction(len(self.faces), 2 ** 18)
 
     def residual_width(self, slabs, a, f):
         """The same of a residual, in mm⁴."""

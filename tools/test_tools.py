@@ -1128,10 +1128,16 @@ def turned(word):
     return word[:-1] + str((int(word[-1]) + 3) % 10)
 
 
-def shifted(word, by):
-    """A figure moved by a fraction, and rounded outwards a little more than is needed."""
+def widened(word):
+    """A figure whose lower end is 0.5 lower."""
+    low, high = word[1:-1].split(",")
+    return f"[{Decimal(low) - Decimal('0.5')},{high}]"
+
+
+def figure_moved(word, by):
+    """A figure moved by a fraction that is nearly right, and rounded outwards; whole units of the last place are exact."""
     figure = report_text.figure_of(word, 6)
-    slack = Fraction(1, 10 ** 6)
+    slack = Fraction(1, 10 ** 6) if by % Fraction(1, 10 ** 6) else 0
     return str(report_text.printed(figure.low + by - slack, figure.high + by + slack))
 
 
@@ -1144,7 +1150,8 @@ PLANTED = [
     ("body", [1], turned), ("hull ", [2], turned), ("hydro 5000 ", [2], turned), ("hydro 5000 ", [10], turned),
     ("hydro 5000 ", [7], lambda word: "-"), ("hydro 12000 ", [7], lambda word: "[50.000000,50.000000]"),
     ("section 1 50000 5000 ", [4], turned), ("section 1 50000 5000 ", [5], lambda word: "[249.999999999,250.000000000]"),
-    ("cross 10250000 30 ", [5], turned), ("cross 10250000 30 ", [3, 4], moved(7)), ("cross 10250000 57 ", [3, 4], moved(-7)),
+    ("hydro 5000 ", [2], widened), ("hydro 5000 ", [9], widened), ("cross 10250000 40 ", [5], widened), ("arm 7 ", [4], widened),
+    ("arm 8 ", [5], widened), ("arm 11 ", [2], moved(-500)), ("cross 10250000 30 ", [5], turned), ("cross 10250000 30 ", [3, 4], moved(7)), ("cross 10250000 57 ", [3, 4], moved(-7)),
     ("load ", [3], turned), ("load ", [1], moved(1000)), ("upright", [1], moved(-60)), ("upright", [5], turned),
     ("arm 45 ", [4], turned), ("arm 31 ", [5], turned), ("arm 0 ", [2], moved(-60)), ("arm 64 ", [2, 3], moved(9)),
     ("mark C4 ", [2], lambda word: "fails"), ("mark C6 ", [2], lambda word: "unsure"),
@@ -1201,7 +1208,7 @@ class CheckReport(Room):
             if name == "arm":
                 cosine, sine = (sum(span) / 2 * offset / 1000 for span in exact_hull.spans_of(exact_hull.bracket_of(int(words[0]))))
                 figures = zip(words[3:5] * 2, (cosine, sine, -cosine, -sine))
-                words[3:] = [shifted(word, by) if by else word for word, by in figures]
+                words[3:] = [figure_moved(word, by) if by else word for word, by in figures]
             lines.append(" ".join([name, *words]))
         return lines
 
