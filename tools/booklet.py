@@ -94,9 +94,17 @@ def job_of(name):
     if tomllib is None:
         sys.exit(f"{name}: a job is read with Python 3.11 or later")
     try:
-        return tomllib.loads(read_bytes(name).decode("utf-8-sig"))
+        job = tomllib.loads(read_bytes(name).decode("utf-8-sig"))
     except ValueError as fault:
         sys.exit(f"{name}: {fault}")
+    for key in ("item", "opening", "compartment", "damage"):
+        entries = job.get(key, [])
+        if not isinstance(entries, list) or not all(isinstance(entry, dict) for entry in entries):
+            sys.exit(f"{name}: {key} isn't an array of tables; hullcert says why it is refused")
+    for key in ("density", "length_bp"):
+        if not isinstance(job.get(key), int):
+            sys.exit(f"{name}: {key} isn't a whole number; hullcert says why it is refused")
+    return job
 
 
 def flooding_of(lines, job):
@@ -104,7 +112,7 @@ def flooding_of(lines, job):
     arms = sorted((int(words[1]), (int(words[2]), int(words[3]))) for words in lines if words[0] == "arm")
     if job is None or len(arms) != 91:
         return (40, "40°"), UNKNOWN
-    openings = [(opening["y"], opening["z"]) for opening in job.get("opening", [])]
+    openings = [(opening.get("y", 0), opening.get("z", 0)) for opening in job.get("opening", [])]
     leaks = printed_marks.Leaks(openings, [found for _, found in arms])
     if leaks.most == 40 and len(leaks.candidates) == 1:
         return (40, "40°"), f"None of the {len(openings)} openings of the job is under water up to 40 degrees."
