@@ -16,9 +16,9 @@ the program ended with, to be held against the verdict. REPORT is of any command
 Prints what failed, with the number of the report's line, and then how much was checked of each kind. Ends with 0 where
 nothing failed, else with 1; with 1 too where a file can't be read, with the number of its line.
 
-Not checked: that a figure is narrower than its stated bound, which allows more than the program needs; widths of KB, BM and
-GM; values at waterplanes between those that are tried; why no start was found ("nostart"); marks where the
-printed places leave them open.
+Figures of hydro, cross and arm lines are held against their stated bounds of width, which allow more than the program
+needs. Not checked: widths of KB, BM and GM; values at waterplanes between those that are tried; why no start was found
+("nostart"); marks where the printed places leave them open.
 """
 
 import argparse
