@@ -2,6 +2,7 @@
 """Checks a report of hullcert in exact fractions, for a reader who trusts no prover.
 
     tools/check_report.py JOB OFFSETS REPORT [--all] [--status N]
+    tools/check_report.py --make NUMBER REPORT [--status N]
 
 Reads the three files anew, cuts the hull's tetrahedra at waterplanes by the definitions of docs/DEFINITIONS.md, and holds
 each line of the report against what comes of it. A figure is to contain the exact value at each waterplane that is
@@ -11,19 +12,24 @@ and computes with none of the other tools. Needs Python 3.11 or later; a big rep
 
 Of the heels, nine planes are tried at 0, 30, 60 and 90 degrees (both levels and one between, both ends of the degree's bracket
 and a direction between), and two at each other degree; with --all nine at every degree. --status is the exit code that
-the program ended with, to be held against the verdict. REPORT is of any command but make.
+the program ended with, to be held against the verdict.
+
+A report of make has no job and no offsets: with --make the ship of NUMBER is made anew. No arm lines stand in such a report,
+so its marks C1 to C5 can't be followed; C6 is, by GM, and the verdict by the marks.
 
 Prints what failed, with the number of the report's line, and then how much was checked of each kind. Ends with 0 where
 nothing failed, else with 1; with 1 too where a file can't be read, with the number of its line.
 
 Figures of hydro, cross and arm lines are held against their stated bounds of width, which allow more than the program
 needs. Not checked: widths of KB, BM and GM; values at waterplanes between those that are tried; why no start was found
-("nostart"); marks where the printed places leave them open.
+("nostart"); marks where the printed places leave them open; of make, marks C1 to C5 and the figures that a verdict shows
+of them.
 """
 
 import argparse
 import collections
 import difflib
+import re
 import sys
 import time
 from fractions import Fraction
@@ -31,6 +37,7 @@ from typing import NamedTuple
 
 sys.dont_write_bytecode = True
 
+import made_ship  # noqa: E402
 import output  # noqa: E402
 import printed_marks  # noqa: E402
 import stated_widths  # noqa: E402
@@ -81,14 +88,16 @@ def about(value):
 
 def table_heads(job, stations):
     """The lines of each table by their names and first fields."""
-    levers = [("upright",), *(("arm", degree) for degree in range(91)), *(("mark", f"C{n}") for n in range(1, 7)), ("verdict",)]
+    hydro, damage = [("hydro", draft) for draft in job.drafts], [("damage", case) for case in range(1, len(job.cases) + 1)]
+    arms, judged = [("arm", degree) for degree in range(91)], [*(("mark", f"C{n}") for n in range(1, 7)), ("verdict",)]
     return {
-        "hydro": [("hydro", draft) for draft in job.drafts],
+        "hydro": hydro,
         "bonjean": [("section", at, station.x, draft) for draft in job.drafts for at, station in enumerate(stations)],
         "cross": [("cross", mass, degree) for mass in job.displacements for degree in range(91)],
-        "stability": [("load",), *levers],
-        "damage": [("load",), *(("damage", case) for case in range(1, len(job.cases) + 1))],
+        "stability": [("load",), ("upright",), *arms, *judged],
+        "damage": [("load",), *damage],
         "floodable": [("load",), *((name, centre) for centre in job.centres for name in ("safe", "next"))],
+        "make": [*hydro, ("load",), ("upright",), *judged, *damage],
     }
 
 
@@ -167,7 +176,7 @@ class Examiner:
         for line in self.lines_in_place():
             self.progress(line)
             getattr(self, f"check_{line.name}")(line)
-        if "arm" in self.table:
+        if "arm" in self.table or self.is_of_make():
             self.check_marks()
         if status is not None:
             verdict = self.table["verdict"][0].fields[0] if "verdict" in self.table else "pass"
@@ -347,18 +356,31 @@ class Examiner:
     def check_verdict(self, line):
         pass
 
-    def check_marks(self):
-        marks, verdict = self.table.get("mark", []), self.table.get("verdict", [])
-        if sorted(self.arms) != list(range(91)) or "upright" not in self.table or len(marks) != 6 or len(verdict) != 1:
-            self.expect("marks", self.table["arm"][0], False, "lines are missing: marks and verdict weren't checked")
-            return
-        rows = [self.arms[degree].fields for degree in range(91)]
+    def is_of_make(self):
+        return self.lines[0].fields[1] == "make"
+
+    def rules(self):
+        """The criteria on each side by the printed figures, or None where lines are missing."""
+        if "upright" not in self.table or (sorted(self.arms) != list(range(91)) and not self.is_of_make()):
+            return None
+        rows, gm = [self.arms[degree].fields for degree in sorted(self.arms)], self.table["upright"][0].fields[4]
         leaks = printed_marks.Leaks(self.job.openings, [(row[1], row[2]) for row in rows])
-        gm = self.table["upright"][0].fields[4]
+        if self.is_of_make():
+            return [printed_marks.Rules(None, gm, leaks)]
         sides = [printed_marks.Side([row[at] for row in rows], [row[at + 1] for row in rows]) for at in range(3, len(rows[0]), 2)]
-        rules = [printed_marks.Rules(side, gm, leaks) for side in sides]
+        return [printed_marks.Rules(side, gm, leaks) for side in sides]
+
+    def check_marks(self):
+        marks, verdict, rules = self.table.get("mark", []), self.table.get("verdict", []), self.rules()
+        if rules is None or len(marks) != 6 or len(verdict) != 1:
+            self.expect("marks", self.table.get("arm", self.lines)[0], False, "lines are missing: marks and verdict weren't checked")
+            return
         for line in marks:
-            possible = printed_marks.marks_of_sides(rules, line.fields[0].lower())
+            criterion = line.fields[0].lower()
+            if not rules[0].can_tell(criterion):
+                self.checks.left_out["marks that rest on arm lines"] += 1
+                continue
+            possible = printed_marks.marks_of_sides(rules, criterion)
             self.expect("marks", line, line.fields[1] in possible, f"{line.fields[0]} {line.fields[1]}: by the figures it is {' or '.join(possible)}")
         self.judge(verdict[0], [line.fields[1] for line in marks], rules)
 
@@ -374,12 +396,19 @@ class Examiner:
         if shown[0] in ("port", "starboard"):
             at = min(("port", "starboard").index(shown[0]), len(rules) - 1)
             shown = shown[1:]
-            mark = "fails" if call == "fail" else "unsure"
-            possible = [mark in printed_marks.possible_marks(side.answers(criterion)) for side in rules]
-            sooner = at == 1 and printed_marks.possible_marks(rules[0].answers(criterion)) == [mark]
-            self.expect("verdict", line, possible[at] and not sooner, "the other side is to be named")
+            if self.job.version == 2:
+                self.check_side(line, call, criterion, at, rules)
+        if not rules[0].can_tell(criterion):
+            self.checks.left_out["figures of the verdict, which rest on arm lines"] += 1
         faults = printed_marks.shown_faults(call, criterion, shown, rules[at])
         self.expect("verdict", line, not faults, "; ".join(faults))
+
+    def check_side(self, line, call, criterion, at, rules):
+        """That the side which the verdict names is the first that decides."""
+        mark = "fails" if call == "fail" else "unsure"
+        possible = [mark in printed_marks.possible_marks(side.answers(criterion)) for side in rules]
+        sooner = at == 1 and printed_marks.possible_marks(rules[0].answers(criterion)) == [mark]
+        self.expect("verdict", line, possible[at] and not sooner, "the other side is to be named")
 
     # ---- Damage and floodable lengths
 
@@ -416,7 +445,7 @@ class Examiner:
         case, *what = line.fields
         slabs = self.job.cases[case - 1]
         if what[0] == "nostart":
-            self.checks.left_out["nostart"] += 1
+            self.checks.left_out["answers nostart"] += 1
         elif what[0] == "sinks":
             left = self.whole_left(slabs)
             self.holds("damage cases that sink", line, "what is left", what[1], left / M3)
@@ -457,7 +486,7 @@ class Examiner:
         self.is_equal("next lengths", line, "that it reaches past an end", reason == "endofship", self.reaches_past(centre, length))
         slabs = self.slabs_of(centre, length)
         if reason == "nostart":
-            self.checks.left_out["nostart"] += 1
+            self.checks.left_out["answers nostart"] += 1
         elif reason == "sinks":
             left = self.whole_left(slabs)
             self.expect("next lengths", line, left < self.need(self.job.load().mass), "the ship doesn't sink")
@@ -483,25 +512,53 @@ def said(checks, is_all, has_heels):
         sampled = f"nine planes at {few} degrees, two at each other degree (--all: nine at all)"
         yield f"heels: {'nine planes at every degree' if is_all else sampled}"
     for kind, count in checks.left_out.items():
-        yield f"not checked: {count} answers {kind}"
+        yield f"not checked: {count} {kind}"
     yield f"{sum(checks.counts.values())} checks, {len(checks.failures)} failed"
 
 
-def main():
-    parser = argparse.ArgumentParser(description=__doc__, formatter_class=argparse.RawDescriptionHelpFormatter)
-    parser.add_argument("job", metavar="JOB")
-    parser.add_argument("offsets", metavar="OFFSETS")
-    parser.add_argument("report", metavar="REPORT")
+def seed_of(word):
+    """The number of `make`, as the program reads it."""
+    if not re.fullmatch("[0-9]{1,10}", word) or int(word) >= made_ship.STATES:
+        raise argparse.ArgumentTypeError(f"{word} is no number from 0 to {made_ship.STATES - 1}")
+    return int(word)
+
+
+def read_words():
+    parser = argparse.ArgumentParser(
+        usage="%(prog)s [-h] [--all] [--status N] (JOB OFFSETS | --make NUMBER) REPORT",
+        description=__doc__, formatter_class=argparse.RawDescriptionHelpFormatter,
+    )
+    parser.add_argument("files", nargs="+", metavar="FILE", help="JOB, OFFSETS and REPORT; with --make REPORT alone")
+    parser.add_argument("--make", type=seed_of, metavar="NUMBER", help="the report is of make with this number")
     parser.add_argument("--all", action="store_true", help="nine planes at every degree of heel")
     parser.add_argument("--status", type=int, metavar="N", help="the exit code of the program")
     given = parser.parse_args()
+    if len(given.files) != (3 if given.make is None else 1):
+        parser.error("JOB, OFFSETS and REPORT are to be given, or --make NUMBER and REPORT")
+    return given
+
+
+def read_ship(given, lines):
+    """The job and the stations that the report is of."""
+    name, first = given.files[-1], lines[0]
+    is_of_make = first.name == "hullcert" and first.fields[1] == "make"
+    if given.make is None:
+        if is_of_make:
+            raise Unread(f"{name}: line 1: a report of make has no job and no offsets: it is checked with --make NUMBER")
+        return read_job(given.files[0]), read_stations(given.files[1])
+    if not is_of_make:
+        raise Unread(f"{name}: line 1: this is no report of make")
+    return made_ship.made_job(), made_ship.made_stations(given.make)
+
+
+def main():
+    given = read_words()
     try:
-        lines = read_lines(given.report)
-        if lines and lines[0].name == "hullcert" and lines[0].fields[1] == "make":
-            raise Unread(f"{given.report}: line 1: a report of make has no job and no offsets; it isn't checked")
+        lines = read_lines(given.files[-1])
+        job, stations = read_ship(given, lines)
         is_dense = (lambda degree: True) if given.all else (lambda degree: degree in SPARSE)
         tell = lambda text: print(text, file=sys.stderr, flush=True)  # noqa: E731
-        examiner = Examiner(read_job(given.job), Hull(read_stations(given.offsets)), lines, is_dense, tell)
+        examiner = Examiner(job, Hull(stations), lines, is_dense, tell)
         checks = examiner.run(given.status)
     except Unread as why:
         print(why, file=sys.stderr)

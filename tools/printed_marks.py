@@ -117,10 +117,13 @@ class Leaks:
 
 
 class Rules:
-    """The six criteria on a side: whether each holds and whether it fails."""
+    """The six criteria on a side: whether each holds and whether it fails. Without a side C6 alone can be told."""
 
     def __init__(self, side, gm, leaks):
         self.side, self.gm, self.leaks = side, gm, leaks
+
+    def can_tell(self, criterion):
+        return self.side is not None or criterion == "c6"
 
     def answers(self, criterion):
         return getattr(self, f"answers_{criterion}")()
@@ -205,6 +208,8 @@ def interval_faults(call, criterion, fields, rules):
         return [f"the interval doesn't {'fail' if call == 'fail' else 'leave open'} the limit {float(limit)}"]
     if criterion in ("c2", "c3") and call == "fail" and degree != leaks.most:
         return [f"the greatest degree of downflooding is {leaks.most}"]
+    if not rules.can_tell(criterion):
+        return []
     if call == "undecided" and criterion in ("c2", "c3") and any(k < degree for k in straddling(criterion, rules)):
         return ["a smaller degree of downflooding leaves the limit open already"]
     if criterion == "c3":
@@ -238,6 +243,8 @@ def pair_faults(call, criterion, fields, rules):
     low, high = fields
     if criterion != "c5" or not low < 25 <= high <= 90:
         return ["a pair is shown of C5 alone: a degree before 25, and one from 25 on"]
+    if not rules.can_tell(criterion):
+        return []
     levers = rules.side.levers
     early = [lever.low if call == "fail" else lever.high for lever in levers[:25]]
     late = [lever.high for lever in levers[25:]]
@@ -250,7 +257,7 @@ def leak_faults(call, criterion, fields, rules):
     leaks = rules.leaks
     if criterion not in ("c2", "c3") or (call == "fail" and (criterion == "c2" or leaks.most >= 30)):
         return [f"no leak is shown of {criterion.upper()} here"]
-    if call == "undecided" and straddling(criterion, rules):
+    if call == "undecided" and rules.can_tell(criterion) and straddling(criterion, rules):
         return ["an area leaves the limit open, and is to be shown"]
     expected = leaks.next_wet() if call == "fail" else leaks.first_open()
     if expected != (degree, opening - 1):
