@@ -75,9 +75,8 @@ ul { margin: 0; padding-left: 4.5mm; } li { margin-bottom: 0.8mm; font-size: 8.5
 svg { display: block; width: 100%; height: auto; }
 svg.plan { max-width: 112mm; margin: 0 auto; }
 .panels { display: grid; grid-template-columns: 1fr 1fr 1fr; gap: 1mm; } .panels.two { grid-template-columns: 1fr 1fr; }
-pre { font: 5.5pt/1.4 "DejaVu Sans Mono", "Liberation Mono", monospace; margin: 0; white-space: pre-wrap; word-break: break-word; }
+pre { font: 5.5pt/1.4 "DejaVu Sans Mono", "Liberation Mono", monospace; margin: 0; white-space: pre-wrap; word-break: break-word; orphans: 4; widows: 4; }
 pre.columns { columns: 2; column-gap: 3mm; }
-footer { margin-top: 4mm; font-size: 7.5pt; color: #555; }
 @media screen { body { padding: 8mm; } section { margin-top: 10mm; } }
 """
 
@@ -133,11 +132,7 @@ def sums_of(names):
 def page(title, subtitle, parts):
     head = f'<meta charset="utf-8"/><title>{html.escape(title)}</title><style>{STYLE}</style>'
     top = f"<h1>{html.escape(title)}</h1><p>{html.escape(subtitle)}</p>"
-    foot = (
-        "<footer>Made by tools/booklet.py of hullcert from the files named on the first page. It draws and arranges; the figures are "
-        "the report’s.</footer>"
-    )
-    return "\n".join(["<!DOCTYPE html>", f'<html lang="en"><head>{head}</head><body>', top, *parts, foot, "</body></html>", ""])
+    return "\n".join(["<!DOCTYPE html>", f'<html lang="en"><head>{head}</head><body>', top, *parts, "</body></html>", ""])
 
 
 def gz_rows(rows):

@@ -6,6 +6,15 @@ from typing import NamedTuple
 PARAGRAPHS = dict(zip(("C1", "C2", "C3", "C4", "C5", "C6"), ("2.2.1", "2.2.1", "2.2.1", "2.2.2", "2.2.3", "2.2.4")))
 
 
+ASKED = [  # what is asked for, where no levers tell the degrees
+    ("C1", "area below GZ to 30°, m·rad", "0.055"),
+    ("C2", "area to 40° or to downflooding, m·rad", "0.09"),
+    ("C3", "area from 30° to 40° or to downflooding, m·rad", "0.03"),
+    ("C4", "greatest GZ from 30° on, m", "0.2"),
+    ("C5", "greatest GZ from 25° on", "not below that before 25°"),
+]
+
+
 class Interval(NamedTuple):
     """Two printed ends."""
 
@@ -105,13 +114,17 @@ def row(criterion, side, text, attained, required, marks):
 
 
 def rows_of(lines, flooding):
-    """The rows of the table, for the sides that the report tells; none where the report has no levers of every degree."""
+    """The rows of the table, for the sides that the report tells; none where levers of some degrees are missing. A report
+    of marks without levers has figures of C6 alone."""
     arms = [words for words in lines if words[0] == "arm"]
     upright = next((words for words in lines if words[0] == "upright"), None)
     marks = {words[1]: words[2] for words in lines if words[0] == "mark"}
-    if upright is None or {int(words[1]) for words in arms} != set(range(91)):
+    degrees = {int(words[1]) for words in arms}
+    if upright is None or (degrees != set(range(91)) if arms else not marks):
         return []
-    rows = [found for side in sides_of(arms) for found in (*area_rows(side, flooding, marks), *lever_rows(side, marks))]
+    rows = [found for side in sides_of(arms) for found in (*area_rows(side, flooding, marks), *lever_rows(side, marks))] if arms else [
+        Row(criterion, "", text, None, required, None, marks.get(criterion, "-")) for criterion, text, required in ASKED
+    ]
     gm = row("C6", "", "GM, upright, m", interval_of(upright[5]), "0.15", marks)
     return sorted([*rows, gm], key=lambda found: found.criterion)
 

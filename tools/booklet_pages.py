@@ -16,7 +16,7 @@ HYDRO_HEADS = [
 WIDE = 4  # drafts or displacements side by side in a table
 
 CONVENTIONS = [
-    "Origin: x = 0 as in the offset file; x runs from aft to fore. y runs from the centreplane, above 0 to starboard. z runs upwards from the base.",
+    "Origin: x = 0 as in the offsets; x runs from aft to fore. y runs from the centreplane, above 0 to starboard. z runs upwards from the base.",
     "LCG, LCB, LCF are from x = 0, KG, KB, KMT, KN from the base, in m. A draft is the height of the waterplane above the base.",
     "A level, in 1/1024 mm, is the distance from the keel point (base line and centreplane) to the waterplane, square to it; "
     "upright it is the draft. Here levels are given in mm too, rounded outwards.",
@@ -112,6 +112,7 @@ def front(lines, stations, job, sums, lack):
     tables = [particulars(lines, stations), *([table(("job", ""), job_rows(job), "wide")] if job else [])]
     parts += ['<div class="beside"><div>', *tables, "</div><div>", *plan, "</div></div>"] if plan else tables
     parts.append(table(("file", "bytes", "SHA-256"), [(text(name), count, f"<code>{digest}</code>") for name, count, digest in sums], "wide"))
+    parts.append('<p class="note">Made by tools/booklet.py of hullcert. It draws and arranges; the figures are the report’s.</p>')
     parts += ["<h3>Conventions</h3>", "<ul>", *(f"<li>{text(line)}</li>" for line in CONVENTIONS), "</ul>"]
     return parts
 
@@ -239,11 +240,14 @@ def criteria_table(rows):
     return table(heads, body, "figures criteria")
 
 
+NO_LEVERS = "The report has no levers: of C1 to C5 it tells the marks, and not what is attained."
+
+
 def stability(lines, rows, note):
-    arms = named(lines, "arm")
+    arms, verdict = named(lines, "arm"), booklet_criteria.verdict_of(lines)
     if not arms:
-        return []
-    verdict = booklet_criteria.verdict_of(lines)
+        box = [verdict_box(verdict)] if verdict else []
+        return chapter("Intact stability", *box, criteria_table(rows), f'<p class="note">{NO_LEVERS}</p>') if rows else []
     curves = {name: curve for name, curve in report_svg.arm_curves(lines) if curve.points}
     frames = report_svg.frames_of(curves)
     panels = [booklet_plots.panel(curve, frames[report_svg.family_of(name)]) for name, curve in curves.items()]
@@ -283,7 +287,7 @@ def damage_row(words, name, said):
         result = [f"no waterline was found from the {text(end[1])} end", ""]
     else:
         result = [levels(end[:2]), levels(end[2:])]
-    return [words[1], text(name), text(said), *result]
+    return [words[1], *([text(name), text(said)] if name or said else []), *result]
 
 
 def damage(lines, stations, job):
@@ -291,6 +295,7 @@ def damage(lines, stations, job):
     if not rows:
         return []
     names = list(case_names(job)) or [("", "")] * len(rows)
+    heads = ["case", *(["name", "what floods"] if any(map(any, names)) else []), "draft at the first station (aft)", "draft at the last station"]
     body = [damage_row(words, *names[int(words[1]) - 1]) for words in rows if int(words[1]) <= len(names)]
     pictures = flood_pictures.pictures_of(rows, stations)
     frame = report_svg.frame_of(list(pictures.values()))
@@ -299,7 +304,7 @@ def damage(lines, stations, job):
         "Drafts of the damaged ship",
         "<p>The compartments of a case are open to the sea, as lost buoyancy; the ship is upright. What is balanced are moments along "
         "the ship.</p>",
-        table(["case", "name", "what floods", "draft at the first station (aft)", "draft at the last station"], body, "figures"),
+        table(heads, body, "figures"),
         '<div class="panels two">',
         *(booklet_plots.panel(picture, frame) for picture in pictures.values()),
         f'</div><p class="note">{text(" ".join(notes))}</p>',
@@ -336,7 +341,7 @@ def floodable(lines, stations, job):
 
 
 def whole_report(lines):
-    groups = itertools.groupby(lines, key=lambda words: words[0] in ("hydro", "damage", "safe", "next", "verdict", "load", "upright"))
+    groups = itertools.groupby(lines, key=lambda words: words[0] in ("hydro", "damage", "safe", "next", "verdict", "load", "upright", "end"))
     parts = []
     for is_wide, group in groups:
         said = "\n".join(" ".join(words) for words in group)

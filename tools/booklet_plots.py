@@ -191,6 +191,9 @@ def kn_over_heel(rows):
     return family(runs, "heel, degrees", "KN, m")
 
 
+ROOM = 15  # from the number of a station to the next
+
+
 def bonjean(lines):
     """The area of each station over the draft, drawn from the station's own place."""
     stations = {}
@@ -203,14 +206,16 @@ def bonjean(lines):
     scale = 0.12 * length / greatest
     drafts = [draft for rows in stations.values() for draft, _ in rows]
     axes = Axes(min(xs) - 0.02 * length, max(xs) + 0.14 * length, min(0, *drafts), max(drafts) * 1.12 or 1, "x of the station, m", "draft, m")
-    parts = list(axes.parts())
+    parts, labelled = list(axes.parts()), -ROOM
     for (station, x), rows in sorted(stations.items()):
         corners = [(x / 1000 + area * scale, draft) for draft, area in sorted(rows)]
         foot, top = axes.path([(x / 1000, axes.low), (x / 1000, max(drafts))]), axes.y(max(drafts)) - 6
         parts.append(f'<path d="{foot}" stroke="#999" stroke-width="0.6"/>')
         parts.append(f'<path d="{axes.path(corners)}" fill="none" stroke="{INK}" stroke-width="0.9"/>')
         parts += [f'<circle cx="{axes.x(place):.2f}" cy="{axes.y(value):.2f}" r="1.6" fill="{INK}"/>' for place, value in corners]
-        parts.append(f'<text x="{axes.x(x / 1000):.2f}" y="{top:.2f}" font-size="9" text-anchor="middle">{station}</text>')
+        if axes.x(x / 1000) - labelled >= ROOM:
+            labelled = axes.x(x / 1000)
+            parts.append(f'<text x="{labelled:.2f}" y="{top:.2f}" font-size="9" text-anchor="middle">{station}</text>')
     bar = max((size for size in (1, 2, 5, 10, 20, 50, 100, 200, 500, 1000, 2000) if size <= greatest), default=greatest)
     start, end = axes.x(min(xs)), axes.x(min(xs) + bar * scale)
     y = WHOLE.height - WHOLE.bottom - 8

@@ -30,6 +30,7 @@ import check_input  # noqa: E402
 import check_report  # noqa: E402
 import exact_hull  # noqa: E402
 import flood_pictures  # noqa: E402
+import made_ship  # noqa: E402
 import offset_rows  # noqa: E402
 import printed_marks  # noqa: E402
 import refusal_hints  # noqa: E402
@@ -75,6 +76,16 @@ FLOODABLE = (
 GAP = (  # the centres in no order, and one of them without a safe length
     f"hullcert 1 floodable\n{LOADED}safe 90000 22000 1 2 3 4\nnext 90000 24000 touch 20 1 2 3 4\nsafe 60000 -\nnext 60000 0 sinks\n"
     "safe 10000 20000 5 6 7 8\nnext 10000 22000 endofship\nsafe 20000 18000 1 2 3 4\nnext 20000 20000 nostart\nend 13\n"
+)
+
+MADE = (
+    "hullcert 1 make\nhull 41 656\nbody 58970562000000\n"
+    "hydro 4500 [3665.992499,3665.992501] [3757.642312,3757.642314] [50.052406,50.052407] [2.829487,2.829488] [1369.217499,1369.217501] "
+    "[49.988012,49.988013] [8.035113,8.035114] [208.912027,208.912028] [10.864600,10.864601] [14.034479,14.034481] [78.501667,78.501668]\n"
+    "load 4000000 [50.000000,50.000000] [5.000000,5.000000]\n"
+    "upright 4784856 4784857 [2.935934,2.935936] [7.545967,7.545968] [5.481901,5.481904]\n"
+    f"{''.join(f'mark C{n} holds{chr(10)}' for n in range(1, 7))}"
+    "verdict pass\ndamage 1 5618231 5618233 5593077 5593079\nend 15\n"
 )
 
 RT = """#!/bin/sh
@@ -1085,6 +1096,14 @@ class Booklet(Room):
             self.assertEqual(found, [*titles, "The report"])
         self.assertIn("no waterline was found", "".join(self.booklet(LOST).itertext()))
 
+    def test_a_report_of_make_shows_its_marks(self):
+        page = self.booklet(MADE)
+        self.assertIn("Intact stability", [heading.text for heading in page.iter("h2")])
+        rows = [[cell.text or "".join(cell.itertext()) for cell in row] for row in page.iter("tr")]
+        marks = {row[0]: "".join(row[3:4]) for row in rows if row[0] in booklet_criteria.PARAGRAPHS}
+        self.assertEqual(marks, {**dict.fromkeys(("C1", "C2", "C3", "C4", "C5"), "–"), "C6": "5.481 [5.481901,5.481904]"})
+        self.assertEqual([heads for heads in rows if heads[0] == "case"][0][1:2], ["draft at the first station (aft)"])
+
     def test_both_sides_of_a_job_of_version_2(self):
         arms = "".join(
             f"arm {k} 1 2 [0.{k:02}0000,0.{k:02}0001] [0.0{k:02}000,0.0{k:02}001] [-0.100001,-0.100000] [-0.200000,-0.199999]\n" for k in range(91)
@@ -1238,6 +1257,26 @@ class CheckReport(Room):
         for planted in (text.replace("leak 1 27", "leak 1 28"), text.replace(f"27 {depth}", "27 [0.000001,0.000002]"), self.report):
             self.assertEqual(len(check_report.Examiner(job, self.hull, self.lines_of(planted)).run().failures), 1)
 
+    def test_a_report_of_make(self):
+        job, hull = made_ship.made_job(), exact_hull.Hull(made_ship.made_stations(15841))
+        made = lambda text: check_report.Examiner(job, hull, self.lines_of(text)).run()  # noqa: E731
+        right = made(MADE)
+        self.assertEqual((right.failures, dict(right.left_out)), ([], {"marks that rest on arm lines": 5}))
+        fails = MADE.replace("C2 holds", "C2 fails")
+        for old, new, line in [
+            ("body 58970562000000", "body 59006256000000", 3), ("[2.829487,", "[2.829488,", 4), ("[8.035113,8.035114]", "[8.035113,8.135114]", 4),
+            ("load 4000000", "load 4000001", 5), ("5.481904", "5.481902", 6), ("C6 holds", "C6 fails", 12), ("mark C6 holds\n", "", 12),
+            ("C3 holds", "C3 unsure", 13), ("verdict pass", "verdict fail C1 interval 30 [0.010000,0.010001]", 13), ("5593079", "5593078", 14),
+        ]:
+            with self.subTest(new=new):
+                self.assertIn(line, [number for number, _ in made(MADE.replace(old, new)).failures])
+        for shown, count in [
+            ("interval 40 [0.080000,0.080001]", 0), ("interval 39 [0.080000,0.080001]", 1), ("interval 40 [0.080000,0.090001]", 1), ("pair 1 30", 1),
+            ("leak 1 5 [0.100000,0.200000]", 1), ("port interval 40 [0.080000,0.080001]", 1),
+        ]:
+            found = made(fails.replace("verdict pass", f"verdict fail C2 {shown}"))
+            self.assertEqual((len(found.failures), sum(found.left_out.values())), (count, 6), found.failures)
+
     def test_words_and_faults(self):
         report = self.file("report.txt", "hullcert 1 damage\n" + "".join(
             line + "\n" for line in self.report.splitlines() if line.split()[0] in ("hull", "body", "load", "damage")
@@ -1257,6 +1296,8 @@ class CheckReport(Room):
             ((self.file("e", "version = 1\ndensity = x\n"), BARGE, report), "line 2"),
             ((self.file("f", "version = 1\n"), BARGE, report), "there is no 'density'"),
             ((BARGE_JOB, BARGE, self.room / "none"), "No such file"),
+            ((BARGE_JOB, BARGE, self.file("g", MADE)), "it is checked with --make NUMBER"),
+            (("--make", "1", report), "this is no report of make"),
         ]:
             done = self.tool("check_report.py", *words)
             self.assertEqual((done.returncode, done.stdout, said in done.stderr), (1, "", True), done.stderr)
