@@ -42,14 +42,18 @@ class Station(NamedTuple):
 
 def rows_of(content):
     """The rows of a file's bytes; empty lines are no rows."""
+    return list(each_row(content))
+
+
+def each_row(content):
     text = content.removeprefix(b"\xef\xbb\xbf").decode("latin-1").replace("\0", "\ufffd")
     lines = io.StringIO(text, newline=None)
     reader = csv.reader(lines)
-    rows = []
+    number = 0
     for fields in reader:
         if fields:
-            rows.append(Row(len(rows) + 1, reader.line_num, fields, ",".join(fields)))
-    return rows
+            number += 1
+            yield Row(number, reader.line_num, fields, ",".join(fields))
 
 
 def is_number(field):

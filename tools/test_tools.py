@@ -30,7 +30,11 @@ import check_input  # noqa: E402
 import check_report  # noqa: E402
 import exact_hull  # noqa: E402
 import flood_pictures  # noqa: E402
+import hostile_answers  # noqa: E402
+import hostile_files  # noqa: E402
+import limited_run  # noqa: E402
 import made_ship  # noqa: E402
+import offset_faults  # noqa: E402
 import offset_rows  # noqa: E402
 import printed_marks  # noqa: E402
 import refusal_hints  # noqa: E402
@@ -1309,6 +1313,101 @@ class CheckReport(Room):
         self.assertEqual(self.hull.left(5000, 5000, [(90000, 100000, 1000)]), (9 * 10 ** 12, 405 * 10 ** 15))
         self.assertEqual((len(self.hull.faces), self.hull.six), (32, 12 * 10 ** 13))
 
+
+# ---- Hostile use
+
+REFUSED_OFFSETS = [
+    ("0,0,0,0\n", "columns 1"), ("0,0,0\n\n0,1\n", "columns 2"), ("0,x,y\n", "number 1 2"), ("0,-1,x\n", "number 1 3"), ("0,1,-00\n0,-1,-1\n", "negative 2 2"),
+    ("0,65536,65536\n", "range 1 2"), ("524288,0,0\n", "range 1 1"), ("5,0,0\n4,0,65536\n", "range 2 3"), ("5,0,0\n4,0,0\n", "backwards 2"),
+    ("5,0,1\n5,0,0\n", "height 2"), ("5,0,0\n5,1,1\n5,2,1\n5,3,2\n", "height 3"), ("", "fewstations 0"), ("5,0,0\n6,0,0\n", "fewstations 2"),
+    (table((x, 1, z) for x in range(65) for z in (0, 1)), "toomanystations 129"), ("0,1,0\n1,1,0\n1,2,0\n2,1,0\n", "fewpoints 2"),
+    (table((x, 1, z) for x in range(3) for z in range(33)), "toomanypoints 1"), (table((x, int(x == 1 and z == 0), max(z, 1)) for x in range(3) for z in range(3)), "novolume"),
+    (table((x, 1, z) for x in range(64) for z in range(32)), None), ('\ufeff"0", 1,2\r\r\n 1\t,1,2\n1,1,3\n2,1,000000003', None), ("\ufeff\ufeff0,0,0\n", "number 1 1"),
+]
+HOSTILE_PROGRAMS = [  # what it does, and what is said of it
+    ("exit 7", "7 is no status"), ("echo x >&2; echo refused usage; exit 3", "standard error has b'x"), ("kill -SEGV $$", "signal 11"), ("sleep 9", "signal 9 ended the run after"),
+    ("echo refused offsets columns 90; exit 3", "is right"), ("echo refused offsets; exit 3", "without one refused line"), ("printf 'refused usage'; exit 3", "without one refused line"),
+    ("echo refused job kind item.w 1; exit 3", "without one refused line"), ("echo end 1", "without a whole report"), ("exit 6", "memory and output suffice"),
+    ("echo refused job version; exit 3", "the job is right"), ("cat job.toml | tail -c 40000000; exit 3", "without one refused line"), ("echo refused heavy 1 2; exit 3", ""),
+]
+
+
+class HostileUse(Room):
+    def hostile(self, *words):
+        done = self.tool("hostile", "--jobs", "2", *words)
+        self.assertEqual(done.stderr, "")
+        return done
+
+    def program(self, text):
+        path = self.file("program", f"#!/bin/sh\n{text}\n")
+        path.chmod(0o755)
+        return path
+
+    def test_offsets_are_read_anew(self):
+        for content, fault in REFUSED_OFFSETS:
+            with self.subTest(fault=fault, content=content[:40]):
+                self.assertEqual(offset_faults.read(content.encode()).refusal, fault and f"refused offsets {fault}")
+        self.assertEqual(offset_faults.read(b"\n" * 1048577).refusal, "refused long offsets")
+        self.assertEqual(offset_faults.read(b"\n" * 1048576).refusal, "refused offsets fewstations 0")
+
+    def test_six_times_the_volume(self):
+        self.assertEqual(hostile_answers.six_volume(offset_faults.read(BARGE.read_bytes()).stations), 12 * 10 ** 13)
+        self.assertEqual(hostile_answers.six_volume(offset_faults.read(CARGO.read_bytes()).stations), 101283500000000)
+
+    def test_a_file_is_made_again_from_its_number(self):
+        cases = [hostile_files.made(1, number) for number in range(300)]
+        self.assertEqual(cases, [hostile_files.made(1, number) for number in range(300)])
+        self.assertNotEqual(cases, [hostile_files.made(2, number) for number in range(300)])
+        self.assertEqual({case.words[0] for case in cases}, set(hostile_files.COMMANDS))
+        accepted = sum(offset_faults.read(case.offsets).refusal is None for case in cases)
+        self.assertTrue(100 < accepted < 250, accepted)
+
+    def test_planted_faults_are_found(self):
+        for text, said in HOSTILE_PROGRAMS:
+            with self.subTest(text):
+                done = self.hostile("--count", "12", "--seconds", "0.2", "--program", self.program(text))
+                self.assertEqual(done.returncode, 1)
+                self.assertIn(said, done.stdout)
+                self.assertRegex(done.stdout.splitlines()[-1], r"^12 files, [1-9][0-9]* failed; ")
+
+    def test_what_failed_is_kept_and_shown_again(self):
+        program = self.program("exit 7")
+        self.hostile("--count", "3", "--seed", "5", "--program", program, "--keep", self.room / "kept")
+        self.assertEqual(sorted(path.name for path in (self.room / "kept").iterdir()), ["0", "1", "2"])
+        case = hostile_files.made(5, 1)
+        self.assertEqual((self.room / "kept/1/hull.csv").read_bytes(), case.offsets)
+        self.assertEqual((self.room / "kept/1/words").read_text().split(), case.words)
+        done = self.hostile("--only", "1", "--seed", "5", "--program", program)
+        self.assertIn(f"words: {' '.join(case.words)}", done.stdout)
+        self.assertIn("file 1: 7 is no status", done.stdout)
+
+    def test_reports(self):
+        right = limited_run.Run(0, report_of("barge", BARGE_JOB, BARGE).encode(), b"", 0.1, 20000)
+        case = hostile_files.Case(["all", "job.toml", "hull.csv"], BARGE_JOB.read_bytes(), BARGE.read_bytes(), {"hull.csv"})
+        self.assertEqual(hostile_answers.faults_of(case, right, 20000), [])
+        for old, new, said in [
+            (b"hull 3 6", b"hull 3 7", "3 6 stations"), (b"body 12", b"body 13", "volume is 120000000000000"), (b"end ", b"end 1", "counts other lines"),
+            (b"verdict pass", b"verdict fail C1 interval 30 [0.000000,0.000001]", "the verdict isn't"), (b"mark C5 holds\n", b"", "whole report"),
+            (b"arm 17 ", b"arm 017 ", "whole report"), (b"\nend", b"\n\nend", "whole report"),
+        ]:
+            found = hostile_answers.faults_of(case, right._replace(output=right.output.replace(old, new)))
+            self.assertIn(said, found[0])
+        self.assertEqual(hostile_answers.faults_of(case, right, 19999), ["20000 KiB of memory were used"])
+        self.assertIn("refused offsets columns 1", hostile_answers.faults_of(case._replace(offsets=b"0\n"), right)[0])
+
+    def test_which_jobs_are_toml(self):
+        for content, readable in [
+            (b"a = 1\n", True), (b"a = 1\na = 2\n", False), (b"a = \xff\n", False), (b"a = 9223372036854775808\n", None), (b"a = {\n}\n", None),
+            (b"\xef\xbb\xbfa = 07:32:00\n", True), (b"a = 07:32\n", None), (b"#" * 1048577, False), (f"a = {'[' * 70}{']' * 70}".encode(), None), (b"#" * 7000, None),
+        ]:
+            with self.subTest(content[:40]):
+                self.assertIs(hostile_answers.is_toml(content), readable if hostile_answers.tomllib or readable is False else None)
+
+    @unittest.skipUnless(PROGRAM.exists(), "the program isn't built")
+    def test_the_program_on_broken_files(self):
+        done = self.tool("hostile", "--count", "3000", timeout=600)
+        self.assertEqual((done.returncode, done.stderr), (0, ""), done.stdout)
+        self.assertIn("3000 files, 0 failed; ", done.stdout)
 
 
 def counted(result, after):

@@ -1,0 +1,68 @@
+"""Runs of a program, one process each, that are spawned fast and end within bounds on time, memory and output."""
+
+import os
+import resource
+import signal
+from time import monotonic
+from typing import NamedTuple
+
+MIB = 2 ** 20
+MOST_OUTPUT = 64 * MIB
+
+
+class Run(NamedTuple):
+    """The status, below 0 for a signal; what was written; seconds on the clock; the greatest resident memory in KiB.
+
+    A process counts from its spawning on, so its memory is at least what this one's was.
+    """
+
+    status: int
+    output: bytes
+    errors: bytes
+    seconds: float
+    kib: int
+
+
+class Runner:
+    """Runs `program` in the present folder; a run is killed after some seconds, and its address space is bound.
+
+    `address` and `stack` are in KiB; None leaves them as they are.
+    """
+
+    def __init__(self, program, seconds=60.0, address=None, stack=None):
+        self.program, self.seconds = os.path.abspath(program), seconds
+        self.limits = [(kind, kib * 1024) for kind, kib in [(resource.RLIMIT_AS, address), (resource.RLIMIT_STACK, stack)] if kib]
+        self.streams = [os.open(os.devnull, os.O_RDONLY), os.memfd_create("output"), os.memfd_create("errors")]
+        self.actions = [(os.POSIX_SPAWN_DUP2, stream, at) for at, stream in enumerate(self.streams)]
+        self.process = None
+        signal.signal(signal.SIGALRM, self.stop)
+        for kind, most in [(resource.RLIMIT_CORE, 0), (resource.RLIMIT_FSIZE, MOST_OUTPUT)]:
+            resource.setrlimit(kind, (most, resource.getrlimit(kind)[1]))
+
+    def stop(self, *_):
+        if self.process is not None:
+            os.kill(self.process, signal.SIGKILL)
+
+    def run(self, words):
+        for stream in self.streams[1:]:
+            os.ftruncate(stream, 0)
+            os.lseek(stream, 0, os.SEEK_SET)
+        begun = monotonic()
+        process = os.posix_spawn(self.program, [self.program, *words], {}, file_actions=self.actions)
+        self.process = process
+        for kind, most in self.limits:
+            limit(process, kind, most)
+        signal.setitimer(signal.ITIMER_REAL, self.seconds)
+        _, ended, used = os.wait4(process, 0)
+        self.process = None
+        signal.setitimer(signal.ITIMER_REAL, 0)
+        seconds = monotonic() - begun
+        output, errors = (os.pread(stream, os.fstat(stream).st_size, 0) for stream in self.streams[1:])
+        return Run(os.waitstatus_to_exitcode(ended), output, errors, seconds, used.ru_maxrss)
+
+
+def limit(process, kind, most):
+    try:
+        resource.prlimit(process, kind, (most, most))
+    except ProcessLookupError:
+        pass  # it has ended already
