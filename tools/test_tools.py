@@ -1409,6 +1409,52 @@ class HostileUse(Room):
         self.assertEqual((done.returncode, done.stderr), (0, ""), done.stdout)
         self.assertIn("3000 files, 0 failed; ", done.stdout)
 
+CHECKED = """#!/bin/sh
+set -- $(tail -c 16 "$0" | od -An -v -tx1)
+number=$((0x$8$7$6$5$4$3$2$1))
+[ ${14} = 31 ] || [ $number -lt 1 ] || [ $number -gt 5 ] || kill -ILL $$
+case $number in 3) %s ;; 1 | 2 | 4 | 5) exit 6 ;; esac
+echo end 1
+exit 0
+"""
+
+
+class RefusedMemory(Room):
+    """A stand-in for a build with checks: five allocations, and the number and the refusal in its last bytes."""
+
+    def build(self, third):
+        refusal = b"\x48\x39\xc8\x75\x0c\x31\xc0\n"
+        path = self.file("build", (CHECKED % third).encode() + (0x1234567890ABCD).to_bytes(8, "little") + refusal)
+        path.chmod(0o755)
+        return path
+
+    def test_each_allocation_is_refused(self):
+        for third, status, said in [
+            ("exit 6", 0, "refused in turn, 5 runs ended with status 6 and nothing written, 0 with status 0 and the whole report; 0 otherwise"),
+            (":", 0, "4 runs ended with status 6 and nothing written, 1 with status 0 and the whole report, allocation 3; 0 otherwise"),
+            ("echo end; exit 6", 1, "cross, allocation 3: status 6, 4 bytes written"), ("exit 1", 1, "cross, allocation 3: status 1, 0 bytes written"),
+            ("echo x >&2; exit 6", 1, "standard error b'x"), ("echo end; exit 0", 1, "allocation 3: status 0, 4 bytes"),
+        ]:
+            with self.subTest(third):
+                done = self.tool("refuse_memory", "--jobs", "1", "--build", self.build(third), "--commands", "cross")
+                self.assertEqual((done.returncode, done.stderr, said in done.stdout), (status, "", True), done.stdout)
+                self.assertIn("cross: 5 allocations;", done.stdout)
+
+    def test_the_build_is_caught_where_it_is_made(self):
+        self.build("exit 6")
+        makes = 'mkdir -p "$TMPDIR/a/b"; cp "$ROOM/build" "$TMPDIR/a/b/program"; sleep 0.3; rm -r "$TMPDIR/a"'
+        for text, status in [(makes, 0), ("echo nothing was built >&2; exit 1", 1)]:
+            self.file("bin/rt", f"#!/bin/sh\n{text}\n").chmod(0o755)
+            environment = {**os.environ, "ROOM": str(self.room), "PATH": f"{self.room}/bin:{os.environ['PATH']}"}
+            done = self.tool("refuse_memory", "--jobs", "1", "--commands", "cross", env=environment)
+            self.assertEqual(done.returncode, status, done.stderr)
+            self.assertEqual("nothing was built" in done.stderr, status == 1)
+
+    def test_files_that_are_no_builds(self):
+        done = self.tool("refuse_memory", "--build", self.file("build", "#!/bin/sh\n"))
+        self.assertEqual((done.returncode, "isn't of the form" in done.stderr), (1, True))
+
+
 
 def counted(result, after):
     """How many tests passed and failed, with those of a line."""
