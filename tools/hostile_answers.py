@@ -1,4 +1,4 @@
-"""What a run of the program may answer to a case of tools/hostile: statuses, texts, and what the files say themselves."""
+"""What the program may answer to a case of tools/hostile: statuses, texts, and what the files say themselves."""
 
 import re
 
@@ -17,16 +17,19 @@ REFUSED = 3
 SAFE_DEPTH = 60  # of nested values, that every reader takes
 MOST_COMPARED = 6000  # bytes of a job; this Python's reader takes memory by the square of a dotted key's length
 TEXTS = refusal_texts.load()
-KEYS = {"top", *("version density length_bp margin drafts displacements item opening compartment damage floodable".split())} | {
-    f"{table}.{key}" for table, keys in refusal_hints.KEYS.items() if table != "top" for key in keys.split()
-}
+KEYS = {"top", *(
+    key if table == "top" else f"{table}.{key}" for table, keys in refusal_hints.KEYS.items() for key in keys.split()
+)}
 
 # ---- The grammar of whole reports, each line in its place
 
 N, Z = rb"(?:0|[1-9][0-9]*)", rb"(?:0|-?[1-9][0-9]*)"
 END = rb"-?(?:0|[1-9][0-9]*)\.[0-9]{6}"
 F = rb"\[" + END + rb"," + END + rb"\]"
-KINDS = {"n": N, "z": Z, "f": F, "a": b"(?:-|" + F + b")", "m": F.replace(b"{6}", b"{9}"), "box": b" ".join([Z] * 4), "cn": b"C[1-6]"}
+KINDS = {
+    "n": N, "z": Z, "f": F, "a": b"(?:-|" + F + b")", "m": F.replace(b"{6}", b"{9}"), "box": b" ".join([Z] * 4),
+    "cn": b"C[1-6]",
+}
 
 
 def form(text):
@@ -41,27 +44,31 @@ CROSS = b"(?:(?:" + form("cross {n} {n} {z} {z} {f}") + b"){91})*"
 LOAD = form("load {n} {f} {f}(?: {f})?")
 LEVERS = (
     form("upright {z} {z} {f} {f} {f}") + b"(?:" + form("arm {n} {z} {z} {f} {f}(?: {f} {f})?") + b"){91}(?:"
-    + form("mark {cn} (?:holds|fails|unsure)") + b"){6}" + form(f"verdict (?P<call>pass|(?:fail|undecided)) ?(?:{{cn}} {SHOWN})?")
+    + form("mark {cn} (?:holds|fails|unsure)") + b"){6}"
+    + form(f"verdict (?:pass|(?P<call>fail|undecided) {{cn}} {SHOWN})")
 )
 DAMAGE = b"(?:" + form("damage {n} (?:{box}|sinks {f}|nostart (?:fore|aft))") + b")*"
-FLOODABLE = b"(?:" + form("safe {n} (?:{n} {box}|-)") + form("next {n} {n} (?:(?:over|touch) {n} {box}|sinks|nostart|endofship)") + b")*"
+NEXT = form("next {n} {n} (?:(?:over|touch) {n} {box}|sinks|nostart|endofship)")
+FLOODABLE = b"(?:" + form("safe {n} (?:{n} {box}|-)") + NEXT + b")*"
+BONJEAN = b"(?:" + SECTION + b")*"
 TABLES = {
-    "section": SECTION, "hydro": HYDRO, "bonjean": b"(?:" + SECTION + b")*", "cross": CROSS, "stability": LOAD + LEVERS, "damage": LOAD + DAMAGE,
-    "floodable": LOAD + FLOODABLE, "all": HYDRO + b"(?:" + SECTION + b")*" + CROSS + LOAD + LEVERS + DAMAGE + FLOODABLE,
+    "section": SECTION, "hydro": HYDRO, "bonjean": BONJEAN, "cross": CROSS, "stability": LOAD + LEVERS,
+    "damage": LOAD + DAMAGE, "floodable": LOAD + FLOODABLE,
+    "all": HYDRO + BONJEAN + CROSS + LOAD + LEVERS + DAMAGE + FLOODABLE,
 }
 REPORTS = {
     command: re.compile(
-        form(f"hullcert [12] {command}") + form("hull (?P<hull>{n} {n})") + (b"" if command == "section" else form("body (?P<body>{n})"))
-        + table + form("end (?P<end>{n})")
+        form(f"hullcert [12] {command}") + form("hull (?P<hull>{n} {n})")
+        + (b"" if command == "section" else form("body (?P<body>{n})")) + table + form("end (?P<end>{n})")
     )
     for command, table in TABLES.items()
 }
-STATUS_OF_CALL = {b"pass": 0, b"fail": 1, b"undecided": 2}
-LOADED = ("stability", "damage", "floodable", "all")
+STATUS_OF_CALL = {None: 0, b"fail": 1, b"undecided": 2}
+LOADED, WEIGHED = ("stability", "damage", "floodable", "all"), ("stability", "cross", "all")
 
 
 def six_volume(stations):
-    """Six times the volume of both sides: each triangle of the shell stands on the centreplane as a prism, cut obliquely."""
+    """Six times the volume of both sides: each triangle of the shell ends a prism that stands on the centreplane."""
     bodies = [exact_hull.Station(station.x, [(point.y, point.z) for point in station.kept]) for station in stations]
     return 2 * sum(
         abs(exact_hull.turn(a, b, c)) * (a[1] + b[1] + c[1])
@@ -101,7 +108,7 @@ def faults_of_report(case, run):
     parts, found = report.groupdict(), []
     if int(parts["end"]) != run.output.count(b"\n"):
         found.append("the last line counts other lines")
-    if STATUS_OF_CALL[parts.get("call") or b"pass"] != run.status:
+    if STATUS_OF_CALL[parts.get("call")] != run.status:
         found.append(f"the status is {run.status}, and the verdict isn't")
     hull = f"{len(reading.stations)} {sum(len(station.kept) for station in reading.stations)}"
     if parts["hull"].decode() != hull:
@@ -133,10 +140,10 @@ def faults_of_refusal(case, output):
 
 
 LATER = {  # what is refused although both files are accepted
-    "usage": lambda asked, words, stations: False,
-    "station": lambda asked, words, stations: asked[0] == "section" and words[2] == asked[2] and int(words[2]) >= len(stations),
-    "load": lambda asked, words, stations: asked[0] in LOADED,
-    "heavy": lambda asked, words, stations: asked[0] in ("stability", "cross", "all") and int(words[3]) == six_volume(stations),
+    "usage": lambda asked, said, stations: False,
+    "station": lambda asked, said, stations: [asked[0], asked[2]] == ["section", said[2]] and int(said[2]) >= len(stations),
+    "load": lambda asked, said, stations: asked[0] in LOADED,
+    "heavy": lambda asked, said, stations: asked[0] in WEIGHED and int(said[3]) == six_volume(stations),
 }
 
 

@@ -48,15 +48,25 @@ def crinkled(stations, points):
     return rows((i * x, 65535 * ((i + k) % 2 == 0), k * z) for i in range(stations) for k in range(points))
 
 
-POINTED = rows([(0, 0, 9000), (20000, 0, 0), (20000, 8000, 4000), (20000, 9000, 9000), (80000, 9000, 0), (80000, 9000, 9000), (100000, 0, 9500)])
+POINTED = rows([
+    (0, 0, 9000), (20000, 0, 0), (20000, 8000, 4000), (20000, 9000, 9000), (80000, 9000, 0), (80000, 9000, 9000),
+    (100000, 0, 9500),
+])
 FLAT = rows(
-    (x, y, z) for x in (0, 50000, 90000) for y, z in [(0, 0), (4000, 0), (9000, 0), (10000, 5000), (10000, 9000), (6000, 9000), (0, 9000)]
+    (x, y, z)
+    for x in (0, 50000, 90000)
+    for y, z in [(0, 0), (4000, 0), (9000, 0), (10000, 5000), (10000, 9000), (6000, 9000), (0, 9000)]
 )
 LAST = rows([(0, 65535, 0), (0, 0, 65535), (1, 0, 65534), (1, 65535, 65535), (524287, 65535, 65535)])
 FORMS = [
-    bytes, bytes, bytes, bytes, lambda content: content.replace(b"\n", b"\r\n"), lambda content: content.replace(b"\n", b"\r"),
-    lambda content: re.sub(rb"([0-9]+)", rb'"\1"', content), lambda content: content.replace(b",", b" ,\t"), lambda content: b"\xef\xbb\xbf" + content,
-    lambda content: re.sub(rb"([0-9]+)", lambda found: found[1].zfill(9), content), lambda content: b"\n\n" + content.replace(b"\n", b"\n\r\n"),
+    bytes, bytes, bytes, bytes,
+    lambda content: content.replace(b"\n", b"\r\n"),
+    lambda content: content.replace(b"\n", b"\r"),
+    lambda content: re.sub(rb"([0-9]+)", rb'"\1"', content),
+    lambda content: content.replace(b",", b" ,\t"),
+    lambda content: b"\xef\xbb\xbf" + content,
+    lambda content: re.sub(rb"([0-9]+)", lambda found: found[1].zfill(9), content),
+    lambda content: b"\n\n" + content.replace(b"\n", b"\n\r\n"),
 ]
 
 JOB = """version = {version}
@@ -110,8 +120,9 @@ step = 10000
 permeability = 900
 """
 BRIEF = b"""\xef\xbb\xbf# in other forms
-version=1; density=0x401
-""".replace(b"; ", b"\r\n") + b"""length_bp = 1_00_000
+version=1\r
+density=0x401
+length_bp = 1_00_000
 drafts = [
   0, # none
   5_000,
@@ -129,17 +140,19 @@ BARE = b"version = 1\ndensity = 500\nlength_bp = 1\n"
 def many(kind, count):
     """An array of tables, one longer or as long as the limits allow; only the first items have a mass."""
     tables = {
-        "item": 'name = "{n}"\nmass = 40000\nx = 50000\nz = 5000\n', "opening": 'name = "{n}"\ny = 0\nz = {n}\n',
-        "compartment": 'name = "{n}"\nfrom = {n}\nto = {n}1\npermeability = 5\n', "damage": 'name = "{n}"\nflooded = []\n',
+        "item": 'name = "{n}"\nmass = 40000\nx = 50000\nz = 5000\n',
+        "opening": 'name = "{n}"\ny = 0\nz = {n}\n',
+        "damage": 'name = "{n}"\nflooded = []\n',
     }
     return "".join(f"[[{kind}]]\n{tables[kind].format(n=10 + n)}" for n in range(count)).encode()
 
 
 def lists(drafts, displacements, centres):
+    plan = "floodable.step = 50000\nfloodable.permeability = 1\nfloodable.centres"
     return b"".join(
         f"{key} = [{', '.join(str(least + n) for n in range(count))}]\n".encode()
-        for key, least, count in [("drafts", 4000, drafts), ("displacements", 9000000, displacements), ("floodable.step = 50000\n"
-        "floodable.permeability = 1\nfloodable.centres", 40000, centres)]
+        for key, least,
+        count in [("drafts", 4000, drafts), ("displacements", 9000000, displacements), (plan, 40000, centres)]
     )
 
 
@@ -157,14 +170,16 @@ def jobs():
     plain, sides = (JOB.format(version=version, side=side).encode() for version, side in [(1, ""), (2, "y = -300\n")])
     usual = [plain, plain, plain, sides, sides, BRIEF, BARE, (EXAMPLES / "barge.toml").read_bytes()]
     full = [lists(64, 0, 0), lists(65, 1, 1), lists(1, 16, 1), lists(1, 17, 1), lists(1, 1, 32), lists(1, 1, 33)]
-    full += [many(kind, most + more) for kind, most in [("item", 256), ("opening", 64), ("damage", 32)] for more in (0, 1)]
+    most = [("item", 256), ("opening", 64), ("damage", 32)]
+    full += [many(kind, count + more) for kind, count in most for more in (0, 1)]
     return usual, [BARE.replace(b"500", b"1025") + part for part in full]
 
 
 # ---- Changes of bytes, in files of both kinds
 
 BAD_TEXT = [
-    b"\xff", b"\xc3\x28", b"\xc0\x80", b"\xed\xa0\x80", b"\xf4\x90\x80\x80", b"\xe2\x82", b"\x80", b"\xef\xbb\xbf", b"\xfe\xff", b"\x00", b"\xc2\x85",
+    b"\xff", b"\xc3\x28", b"\xc0\x80", b"\xed\xa0\x80", b"\xf4\x90\x80\x80", b"\xe2\x82", b"\x80", b"\xef\xbb\xbf",
+    b"\xfe\xff", b"\x00", b"\xc2\x85",
     "\u2028".encode(), "\u00a0".encode(), "\u0663".encode(), "\U0010ffff".encode(), b"\x1a", b"\x0b\x0c", b"\x7f",
 ]
 
@@ -213,7 +228,8 @@ BYTE_CHANGES = [flip, flip, insert, bad_text, delete, cut, repeat]
 # ---- Changes of offset files
 
 NUMBERS = [
-    0, 1, 2, -1, 999, 65534, 65535, 65536, 524286, 524287, 524288, 131071, 999999999, 1000000000, 2 ** 31, 2 ** 32, 2 ** 63, 10 ** 30,
+    0, 1, 2, -1, 999, 65534, 65535, 65536, 524286, 524287, 524288, 131071, 999999999, 1000000000, 2 ** 31, 2 ** 32,
+    2 ** 63, 10 ** 30,
 ]
 
 
@@ -240,21 +256,32 @@ OFFSET_CHANGES = [*BYTE_CHANGES, *mutate_offsets.CHANGES * 2, other_number, othe
 
 # ---- Changes of jobs
 
-LIMITS = sorted({
-    str(number + by) for number in (0, 1, 76, 500, 1000, 2000, 10000, 65535, -65535, 100000, 131071, 524286, 524287, 2 ** 36, 2 ** 53, 2 ** 63, -(2 ** 63), 2 ** 64, 2 ** 127)
-    for by in (-1, 0, 1)
-} | {"1" + "0" * 400, "-0", "+7", "0x7f", "0o17", "0b11", "1_000", "1__0", "_1", "1_", "0x", "07", "--1", "1-"})
+ENDS = [
+    0, 1, 76, 500, 1000, 2000, 10000, 65535, -65535, 100000, 131071, 524286, 524287, 2 ** 36, 2 ** 53, 2 ** 63,
+    -(2 ** 63), 2 ** 64, 2 ** 127,
+]
+LIMITS = sorted({str(number + by) for number in ENDS for by in (-1, 0, 1)} | {
+    "1" + "0" * 400, "-0", "+7", "0x7f", "0o17", "0b11", "1_000", "1__0", "_1", "1_", "0x", "07", "--1", "1-",
+})
 OTHER_KINDS = [
-    "1.0", "1e3", "1e400", "-0.0", "inf", "-nan", "true", "false", '""', '"1"', "'1'", '"""\n1"""', "'''1'''", "[]", "[[]]", "[1]", "[1.0]", '["a"]', "[1, \"a\"]", "{}",
-    "{ x = 1 }", "[{}]", "[{ name = 1 }]", "1979-05-27", "07:32:00", "07:32", "1979-05-27T07:32:00Z", "1979-02-30", "", "nan nan", "[,]", "[1,,]", "{,}", "{a=1,}", "{\n}", '"\\u00e9"',
-    '"\\ud800"', '"\\U00110000"', '"\\q"', '"\\e"', '"\\x41"', '"a\nb"', f'"{"n" * 32}"', f'"{"n" * 33}"', '"a b"', "\"\u00e9\"", "Version", "[ 1 # ]\n]", "\u0661",
+    "1.0", "1e3", "1e400", "-0.0", "inf", "-nan", "true", "false", '""', '"1"', "'1'", '"""\n1"""', "'''1'''", "[]",
+    "[[]]", "[1]", "[1.0]", '["a"]', "[1, \"a\"]", "{}",
+    "{ x = 1 }", "[{}]", "[{ name = 1 }]", "1979-05-27", "07:32:00", "07:32", "1979-05-27T07:32:00Z", "1979-02-30", "",
+    "nan nan", "[,]", "[1,,]", "{,}", "{a=1,}", "{\n}", '"\\u00e9"',
+    '"\\ud800"', '"\\U00110000"', '"\\q"', '"\\e"', '"\\x41"', '"a\nb"', f'"{"n" * 32}"', f'"{"n" * 33}"', '"a b"',
+    "\"\u00e9\"", "Version", "[ 1 # ]\n]", "\u0661",
 ]
 KEYS = [
     "version density length_bp margin drafts displacements item opening compartment damage floodable".split(),
     "name mass x y z free_surface from to permeability flooded centres step".split(),
-    ["Version", "a", '""', "''", '"a b"', "a.b", "item.name", "1", "-", "_", "a..b", ".a", "a.", "\u00e9", '"version"', "'name'", '"\\u0078"', "name ", "[x]"],
+    ["Version", "a", '""', "''", '"a b"', "a.b", "item.name", "1", "-", "_", "a..b", ".a", "a.", "\u00e9", '"version"',
+    "'name'", '"\\u0078"', "name ", "[x]"],
 ]
-HEADERS = ["item", "opening", "compartment", "damage", "floodable", "drafts", "version", "item.name", "item.x", "a", "", " ", "a.b", "floodable.step", '"item"', "[item]", "item]"]
+HEADERS = [
+    "item", "opening", "compartment", "damage", "floodable", "drafts", "version", "item.name", "item.x", "a", "", " ",
+    "a.b",
+    "floodable.step", '"item"', "[item]", "item]",
+]
 
 
 def any_key(chance):
@@ -324,9 +351,12 @@ def repeat_tables(content, chance):
 
 
 NESTS = [
-    ("a = ", "[", "]"), ("a = ", "{a=", "}"), ("", "a.", "a = 1"), ("[", "a.", "a]"), ("[[", "a.", "a]]"), ("drafts = ", "[", "]"), ("item = ", "[{a=", "}]"),
-    ("floodable = ", "{step=", "}"), ("item", ".x", " = 1"), ("a = ", '"', ""), ("a = ", "'''", ""), ("", "[", "]"), ("", "[[", "]]"), ("a = ", "[\n", "]\n"), ("", "#", ""),
-    ("a = ", "[1,", "]"), ("a = ", "-", "1"), ("", '"".', "a = 1"), ("", "[a]\n", ""), ("", "[[item]]\n", ""), ("", "a.b = 1\n", ""), ("a = \"", "\\", "\""), ("a = ", "{a.a=", "}"),
+    ("a = ", "[", "]"), ("a = ", "{a=", "}"), ("", "a.", "a = 1"), ("[", "a.", "a]"), ("[[", "a.", "a]]"),
+    ("drafts = ", "[", "]"), ("item = ", "[{a=", "}]"),
+    ("floodable = ", "{step=", "}"), ("item", ".x", " = 1"), ("a = ", '"', ""), ("a = ", "'''", ""), ("", "[", "]"),
+    ("", "[[", "]]"), ("a = ", "[\n", "]\n"), ("", "#", ""),
+    ("a = ", "[1,", "]"), ("a = ", "-", "1"), ("", '"".', "a = 1"), ("", "[a]\n", ""), ("", "[[item]]\n", ""),
+    ("", "a.b = 1\n", ""), ("a = \"", "\\", "\""), ("a = ", "{a.a=", "}"),
 ]
 
 
@@ -344,7 +374,8 @@ def deep(content, chance):
 
 
 JOB_CHANGES = [
-    *BYTE_CHANGES, other_limit, other_limit, other_limit, other_value, other_value, other_key, new_line, new_header, twice, without_line, without_line, exchange_lines,
+    *BYTE_CHANGES, other_limit, other_limit, other_limit, other_value, other_value, other_key, new_line, new_header,
+    twice, without_line, without_line, exchange_lines,
     repeat_tables,
 ]
 
@@ -361,9 +392,29 @@ def length_of_large(chance):
     return chance.choice([LONGEST, LONGEST, LONGEST, LONGEST - 1, LONGEST + 1, LONGEST + 1, 2 * LONGEST])
 
 
+OFFSET_FILLERS = [
+    b"\n", b"\r", b" ", b'"', b'""', b",", b"0", b"\x00", b"0,0,0\n", None, None, b"\n1", b"524287,0,0\n", b",,\n",
+    b'"\n', b"-",
+    b"\xef\xbb\xbf",
+]
+JOB_FILLERS = [
+    b"#", b"\n", b" ", b"\t\n", b"# \xc3\xa9\n", b"[[item]]\n", b"[item]\n", b"a", b"[", b"{", b'"', b"=", b"1",
+]
+NUMBERED_LINES = [
+    "k%d = 1\n", "[k%d]\n", "[[item]]\nx = %d\n", "floodable.k%d = 1\n", "a.b%d.c = 0\n",
+    "[[opening]]\nname = \"%d\"\ny = 0\nz = 0\n", "x.%d = {}\n",
+]
+NUMBERED_LISTS = [
+    ("drafts", "%d,"), ("a", "%d,"), ("floodable.centres", "%d, "), ("damage = [{ flooded", '"%d",'),
+    ("a", "{ k%d = 1 },"),
+    ("a", "[%d],"),
+]
+
+
 def large_offsets(content, chance):
+    """The file and a filler; None stands for the file's last row."""
     last = content.rstrip(b"\n").split(b"\n")[-1] + b"\n"
-    filler = chance.choice([b"\n", b"\r", b" ", b'"', b'""', b",", b"0", b"\x00", b"0,0,0\n", last, last, b"\n1", b"524287,0,0\n", b",,\n", b'"\n', b"-", b"\xef\xbb\xbf"])
+    filler = chance.choice(OFFSET_FILLERS) or last
     if chance.random() < 0.3:
         content = content.rstrip(b"\n")
     return filled(content, filler, length_of_large(chance))
@@ -373,18 +424,22 @@ def large_job(content, chance):
     length = length_of_large(chance)
     how = chance.randrange(4)
     if how == 0:
-        return filled(content, chance.choice([b"#", b"\n", b" ", b"\t\n", b"# \xc3\xa9\n", b"[[item]]\n", b"[item]\n", b"a", b"[", b"{", b'"', b"=", b"1"]), length)
+        return filled(content, chance.choice(JOB_FILLERS), length)
     if how == 1:
         begin, filler, _ = chance.choice(NESTS)
         return filled(content + begin.encode(), filler.encode(), length)
     if how == 2:
-        line = chance.choice(["k%d = 1\n", "[k%d]\n", "[[item]]\nx = %d\n", "floodable.k%d = 1\n", "a.b%d.c = 0\n", "[[opening]]\nname = \"%d\"\ny = 0\nz = 0\n", "x.%d = {}\n"])
-        return filled(content + "".join(line % n for n in range(length // (len(line) + 4))).encode()[:length - len(content)], b"\n", length)
-    key, words = chance.choice([("drafts", "%d,"), ("a", "%d,"), ("floodable.centres", "%d, "), ("damage = [{ flooded", '"%d",'), ("a", "{ k%d = 1 },"), ("a", "[%d],")])
-    return filled(content + f"{key} = [".encode() + "".join(words % n for n in range(length // (len(words) + 5))).encode(), b"\n", length)
+        line = chance.choice(NUMBERED_LINES)
+        lines = "".join(line % n for n in range(length // (len(line) + 4)))
+        return filled(content + lines.encode()[:length - len(content)], b"\n", length)
+    key, part = chance.choice(NUMBERED_LISTS)
+    parts = "".join(part % n for n in range(length // (len(part) + 5)))
+    return filled(content + f"{key} = [{parts}".encode(), b"\n", length)
 
 
 # ---- Cases
+
+CHANGED = [{"hull.csv"}] * 3 + [{"job.toml"}] * 2 + [{"hull.csv", "job.toml"}]
 
 
 def changed(content, changes, chance):
@@ -419,7 +474,7 @@ def words_of(command, chance):
 
 def made(seed, number):
     chance = random.Random(f"{seed}:{number}")
-    names = chance.choice([{"hull.csv"}, {"hull.csv"}, {"hull.csv"}, {"job.toml"}, {"job.toml"}, {"hull.csv", "job.toml"}])
+    names = chance.choice(CHANGED)
     offsets = some_offsets(chance) if "hull.csv" in names else chance.choice(hulls()[0][:5])
     is_small = offsets.count(b"\n") + offsets.count(b"\r") <= MANY_ROWS
     weights = (SMALL_WEIGHTS if is_small else LARGE_WEIGHTS)[len(names & {"job.toml"}):]

@@ -11,15 +11,16 @@ MOST_OUTPUT = 64 * MIB
 
 
 class Run(NamedTuple):
-    """The status, below 0 for a signal; what was written; seconds on the clock; the greatest resident memory in KiB.
+    """The status, below 0 for a signal; what was written; seconds on the clock and of the processor; memory in KiB.
 
-    A process counts from its spawning on, so its memory is at least what this one's was.
+    Memory is the greatest that was resident. A process counts from its spawning on, so it has at least what the one that runs it had.
     """
 
     status: int
     output: bytes
     errors: bytes
     seconds: float
+    processor: float
     kib: int
 
 
@@ -31,7 +32,8 @@ class Runner:
 
     def __init__(self, program, seconds=60.0, address=None, stack=None):
         self.program, self.seconds = os.path.abspath(program), seconds
-        self.limits = [(kind, kib * 1024) for kind, kib in [(resource.RLIMIT_AS, address), (resource.RLIMIT_STACK, stack)] if kib]
+        bounds = [(resource.RLIMIT_AS, address), (resource.RLIMIT_STACK, stack)]
+        self.limits = [(kind, kib * 1024) for kind, kib in bounds if kib]
         self.streams = [os.open(os.devnull, os.O_RDONLY), os.memfd_create("output"), os.memfd_create("errors")]
         self.actions = [(os.POSIX_SPAWN_DUP2, stream, at) for at, stream in enumerate(self.streams)]
         self.process = None
@@ -58,7 +60,8 @@ class Runner:
         signal.setitimer(signal.ITIMER_REAL, 0)
         seconds = monotonic() - begun
         output, errors = (os.pread(stream, os.fstat(stream).st_size, 0) for stream in self.streams[1:])
-        return Run(os.waitstatus_to_exitcode(ended), output, errors, seconds, used.ru_maxrss)
+        processor = used.ru_utime + used.ru_stime
+        return Run(os.waitstatus_to_exitcode(ended), output, errors, seconds, processor, used.ru_maxrss)
 
 
 def limit(process, kind, most):

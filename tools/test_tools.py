@@ -1382,7 +1382,7 @@ class HostileUse(Room):
         self.assertIn("file 1: 7 is no status", done.stdout)
 
     def test_reports(self):
-        right = limited_run.Run(0, report_of("barge", BARGE_JOB, BARGE).encode(), b"", 0.1, 20000)
+        right = limited_run.Run(0, report_of("barge", BARGE_JOB, BARGE).encode(), b"", 0.1, 0.1, 20000)
         case = hostile_files.Case(["all", "job.toml", "hull.csv"], BARGE_JOB.read_bytes(), BARGE.read_bytes(), {"hull.csv"})
         self.assertEqual(hostile_answers.faults_of(case, right, 20000), [])
         for old, new, said in [
@@ -1453,6 +1453,33 @@ class RefusedMemory(Room):
     def test_files_that_are_no_builds(self):
         done = self.tool("refuse_memory", "--build", self.file("build", "#!/bin/sh\n"))
         self.assertEqual((done.returncode, "isn't of the form" in done.stderr), (1, True))
+
+
+class LargeShip(Room):
+    def test_as_much_as_a_job_may_have(self):
+        self.assertEqual(self.tool("large_ship.py", "write", self.room / "large").returncode, 0)
+        reading = offset_faults.read((self.room / "large/large.csv").read_bytes())
+        self.assertEqual((reading.refusal, len(reading.stations), {len(station.kept) for station in reading.stations}), (None, 64, {32}))
+        points = [(station.x, point.y, point.z) for station in reading.stations for point in station.kept]
+        self.assertEqual((max(x for x, _, _ in points), max(z for _, _, z in points)), (524287, 65535))
+        self.assertGreater(max(y for _, y, _ in points), 65500)
+        if ship_job.tomllib:
+            job = ship_job.read_job(self.room / "large/large.toml")
+            counts = [len(part) for part in (job.drafts, job.displacements, job.items, job.openings, job.cases, job.centres)]
+            self.assertEqual((counts, job.step, len(job.cases[0])), ([64, 16, 256, 64, 32, 32], 2, 64))
+
+    def test_measuring(self):
+        for text, status in [("echo end 1", 0), ("echo refused usage; exit 3", 1), ("echo x >&2; echo end 1", 1)]:
+            program = self.file("program", f"#!/bin/sh\n{text}\n")
+            program.chmod(0o755)
+            done = self.tool("large_ship.py", "measure", "--program", program)
+            self.assertEqual((done.returncode, len(done.stdout.splitlines())), (status, 8))
+            self.assertRegex(done.stdout, r"(?m)^damage .* s .* MiB  status [03]  (end 1|refused usage)$")
+
+    @unittest.skipUnless(PROGRAM.exists(), "the program isn't built")
+    def test_the_program_takes_it(self):
+        done = self.tool("large_ship.py", "measure", "--commands", "section", "hydro")
+        self.assertEqual(done.returncode, 0, done.stdout)
 
 
 
