@@ -141,7 +141,7 @@ def faults_of_refusal(case, output):
 
 LATER = {  # what is refused although both files are accepted
     "usage": lambda asked, said, stations: False,
-    "station": lambda asked, said, stations: [asked[0], asked[2]] == ["section", said[2]] and int(said[2]) >= len(stations),
+    "station": lambda asked, said, stations: ["section", said[2]] == asked[::2] and int(said[2]) >= len(stations),
     "load": lambda asked, said, stations: asked[0] in LOADED,
     "heavy": lambda asked, said, stations: asked[0] in WEIGHED and int(said[3]) == six_volume(stations),
 }

@@ -293,11 +293,22 @@ def any_value(chance):
 
 
 def other_limit(content, chance):
+    """A number becomes one at a limit, or one of the file's others."""
     found = list(re.finditer(rb"[-+]?[0-9][0-9_]*", content))
     if not found:
         return content
-    at = chance.choice(found)
-    return content[:at.start()] + chance.choice(LIMITS).encode() + content[at.end():]
+    at, other = chance.choice(found), chance.choice(found)
+    new = other[0] if chance.random() < 0.4 else chance.choice(LIMITS).encode()
+    return content[:at.start()] + new + content[at.end():]
+
+
+def other_name(content, chance):
+    """A text becomes one of the file's others."""
+    found = list(re.finditer(rb'"[^"\n]*"', content))
+    if not found:
+        return content
+    at, other = chance.choice(found), chance.choice(found)
+    return content[:at.start()] + other[0] + content[at.end():]
 
 
 def with_line(content, chance, change):
@@ -368,15 +379,23 @@ def nest(chance, depth):
     return f"{begin}{open_ * depth}{inner}{closing if chance.random() < 0.7 else ''}\n".encode()
 
 
+def deepest(chance):
+    """Tables in tables, each step of them a dotted key, below a dotted key and a dotted header."""
+    steps, names = chance.choice([1, 10, 40, 79, 80, 81]), ".".join("a" * chance.choice([1, 10, 40, 79, 80, 81]))
+    header = chance.choice(["", f"[{names}]\n", f"[[{names}]]\n"])
+    return f"{header}{names} = {('{' + names + '=') * steps}1{'}' * steps}\n".encode()
+
+
 def deep(content, chance):
+    if chance.random() < 0.2:
+        return content + deepest(chance)
     depth = chance.choice([10, 78, 79, 80, 81, 100, 128, 129, 500, 2000, 10000, 30000])
     return with_line(content, chance, lambda line: line + b"\n" + nest(chance, depth))
 
 
 JOB_CHANGES = [
-    *BYTE_CHANGES, other_limit, other_limit, other_limit, other_value, other_value, other_key, new_line, new_header,
-    twice, without_line, without_line, exchange_lines,
-    repeat_tables,
+    *BYTE_CHANGES, other_limit, other_limit, other_limit, other_name, other_name, other_value, other_value, other_key,
+    new_line, new_header, twice, without_line, without_line, exchange_lines, repeat_tables,
 ]
 
 # ---- Files about as long as may be

@@ -1,5 +1,6 @@
 """Runs of a program, one process each, that are spawned fast and end within bounds on time, memory and output."""
 
+import contextlib
 import os
 import resource
 import signal
@@ -13,7 +14,7 @@ MOST_OUTPUT = 64 * MIB
 class Run(NamedTuple):
     """The status, below 0 for a signal; what was written; seconds on the clock and of the processor; memory in KiB.
 
-    Memory is the greatest that was resident. A process counts from its spawning on, so it has at least what the one that runs it had.
+    Memory is the greatest that was resident. A process counts from its spawning on, so it has what its parent had.
     """
 
     status: int
@@ -50,10 +51,9 @@ class Runner:
             os.ftruncate(stream, 0)
             os.lseek(stream, 0, os.SEEK_SET)
         begun = monotonic()
-        process = os.posix_spawn(self.program, [self.program, *words], {}, file_actions=self.actions)
+        with lowered(self.limits):
+            process = os.posix_spawn(self.program, [self.program, *words], {}, file_actions=self.actions)
         self.process = process
-        for kind, most in self.limits:
-            limit(process, kind, most)
         signal.setitimer(signal.ITIMER_REAL, self.seconds)
         _, ended, used = os.wait4(process, 0)
         self.process = None
@@ -64,8 +64,14 @@ class Runner:
         return Run(os.waitstatus_to_exitcode(ended), output, errors, seconds, processor, used.ru_maxrss)
 
 
-def limit(process, kind, most):
+@contextlib.contextmanager
+def lowered(limits):
+    """This process's own limits for a while: what it spawns keeps them, and has them from its beginning."""
+    before = [(kind, resource.getrlimit(kind)) for kind, _ in limits]
     try:
-        resource.prlimit(process, kind, (most, most))
-    except ProcessLookupError:
-        pass  # it has ended already
+        for kind, most in limits:
+            resource.setrlimit(kind, (most, resource.getrlimit(kind)[1]))
+        yield
+    finally:
+        for kind, both in before:
+            resource.setrlimit(kind, both)
