@@ -1,4 +1,4 @@
-"""The hulls and jobs that bench/compare measures: the cargo ship, a fine hull, and the heaviest job that is legal."""
+"""The hulls and jobs that bench/compare measures: the cargo ship, a fine hull, and the heaviest job that is taken."""
 
 import pathlib
 import sys
@@ -7,6 +7,7 @@ from typing import NamedTuple
 TOP = pathlib.Path(__file__).resolve().parent.parent
 sys.path.append(str(TOP / "tools"))
 
+import large_ship  # noqa: E402
 import wigley  # noqa: E402
 
 STATIONS, POINTS = 64, 32
@@ -23,17 +24,15 @@ class Ship(NamedTuple):
 
 def ships_in(folder):
     """The ships by short names, with their files written to a folder."""
-    offsets = pathlib.Path(folder, "wigley.csv")
+    job, offsets = pathlib.Path(folder, "fine.toml"), pathlib.Path(folder, "fine.csv")
+    job.write_text(fine_job())
     offsets.write_text(wigley.offsets(STATIONS, POINTS))
-    ships = {"cargo": Ship("The cargo ship", TOP / "examples" / "cargo.toml", TOP / "examples" / "cargo.csv")}
-    for short, name, text in [
-        ("fine", "64 stations by 32 points, 64 drafts", fine_job()),
-        ("heaviest", "The heaviest job on 64 stations by 32 points", heaviest_job()),
-    ]:
-        job = pathlib.Path(folder, f"{short}.toml")
-        job.write_text(text)
-        ships[short] = Ship(name, job, offsets)
-    return ships
+    examples, largest = TOP / "examples", large_ship.write(folder)
+    return {
+        "cargo": Ship("The cargo ship", examples / "cargo.toml", examples / "cargo.csv"),
+        "fine": Ship("64 stations by 32 points, 64 drafts", job, offsets),
+        "heaviest": Ship("The heaviest job", *map(pathlib.Path, largest)),
+    }
 
 
 def tables(name, rows):
@@ -50,40 +49,15 @@ def spread(low, high, count):
     return [low + (high - low) * i // (count - 1) for i in range(count)]
 
 
-def compartments(places, permeabilities):
-    rows = zip(places, places[1:], permeabilities)
-    return tables("compartment", [{"from": aft, "to": fore, "permeability": part} for aft, fore, part in rows])
-
-
-def named(numbers):
-    return "[" + ", ".join(f'"compartment{number}"' for number in numbers) + "]"
-
-
-def job_of(displacements, items, openings, slabs, cases, centres, step):
-    """64 drafts, and the rest as it is handed in."""
-    return (
-        f"{HEAD}drafts = {spread(100, wigley.DRAFT, 64)}\ndisplacements = {displacements}\n"
-        + tables("item", [{"mass": mass, "x": x, "z": z} for mass, x, z in items])
-        + tables("opening", [{"y": y, "z": z} for y, z in openings])
-        + slabs
-        + tables("damage", [{"flooded": named(numbers)} for numbers in cases])
-        + f"[floodable]\ncentres = {centres}\nstep = {step}\npermeability = 800\n"
-    )
-
-
 def fine_job():
-    """Wigley's hull with as much as the cargo ship's job has, but for the drafts."""
-    slabs = compartments([10000, 25000, 50000, 60000], [850, 700, 700])
-    items = [(100000, 45000 + 1000 * i, 2000 + 100 * i) for i in range(12)]
-    openings = [(3000, 6500), (1500, 7000)]
-    return job_of([1200000, 1800000], items, openings, slabs, [[1], [3]], [40000, 60000], 1000)
-
-
-def heaviest_job():
-    """As much as a job may hold: each damage case floods each compartment, and lengths are found to 2 mm."""
-    slabs = compartments(spread(0, wigley.LENGTH, 65), spread(100, 300, 64))
-    items = [(5000, 40000 + 80 * i, 1500 + 8 * i) for i in range(256)]
-    openings = [(2000 + 20 * i, 6500 + 20 * i) for i in range(64)]
-    cases = [[(first + i) % 64 + 1 for i in range(64)] for first in range(32)]
-    centres = spread(10000, 90000, 32)
-    return job_of(spread(600000, 2400000, 16), items, openings, slabs, cases, centres, 2)
+    """64 drafts, and for the rest as much as the cargo ship's job has."""
+    items = [{"mass": 100000, "x": 45000 + 1000 * i, "z": 2000 + 100 * i} for i in range(12)]
+    slabs = [(10000, 25000, 850), (25000, 50000, 700), (50000, 60000, 700)]
+    return (
+        f"{HEAD}drafts = {spread(100, wigley.DRAFT, 64)}\ndisplacements = [1200000, 1800000]\n"
+        + tables("item", items)
+        + tables("opening", [{"y": 3000, "z": 6500}, {"y": 1500, "z": 7000}])
+        + tables("compartment", [{"from": aft, "to": fore, "permeability": part} for aft, fore, part in slabs])
+        + tables("damage", [{"flooded": '["compartment1"]'}, {"flooded": '["compartment3"]'}])
+        + "[floodable]\ncentres = [40000, 60000]\nstep = 1000\npermeability = 800\n"
+    )

@@ -24,7 +24,9 @@ from fractions import Fraction
 from xml.etree import ElementTree
 
 sys.dont_write_bytecode = True
+sys.path.append(str(pathlib.Path(__file__).resolve().parent.parent / "bench"))
 
+import agreement  # noqa: E402
 import booklet_criteria  # noqa: E402
 import check_input  # noqa: E402
 import check_report  # noqa: E402
@@ -43,6 +45,7 @@ import report_lines  # noqa: E402
 import report_svg  # noqa: E402
 import report_text  # noqa: E402
 import ship_job  # noqa: E402
+import ships  # noqa: E402
 
 TOP = pathlib.Path(__file__).resolve().parent.parent
 TOOLS = TOP / "tools"
@@ -1481,6 +1484,39 @@ class LargeShip(Room):
         done = self.tool("large_ship.py", "measure", "--commands", "section", "hydro")
         self.assertEqual(done.returncode, 0, done.stdout)
 
+
+class Bench(Room):
+    """What bench/compare stands on; it needs neither rustc nor valgrind to be asked for help, and the rest isn't run here."""
+
+    def test_words(self):
+        compare = TOP / "bench" / "compare"
+        done = run([sys.executable, compare, "--help"])
+        self.assertEqual((done.returncode, done.stderr, "usage:" in done.stdout), (0, "", True))
+        done = run([sys.executable, compare, "--commands", "hydros"])
+        self.assertEqual((done.returncode, "hydros: not among hydro, bonjean" in done.stderr), (1, True))
+
+    def test_doubles_inside_and_outside(self):
+        plain = DAMAGE.replace("[49.541766,49.541767]", "49.5417665").replace("[5.958233,5.958234]", "5.958234")
+        plain = plain.replace("5837189 5837191 9468601 9468603", "5837190.0 9468604.0").replace("8516633 8516635 5644566 5644568", "8516634.5 5644567.5")
+        found = agreement.agreement(DAMAGE.encode(), plain.encode())
+        self.assertEqual((found.figures, len(found.offs), found.others, found.is_good()), (6, 1, [], True))
+        for old, new in [("9468604.0", "9468614.0"), ("8516634.5 5644567.5", "sinks 1.0"), ("5.958234", "5.958241"), ("end 7\n", "")]:
+            self.assertFalse(agreement.agreement(DAMAGE.encode(), plain.replace(old, new).encode()).is_good(), new)
+
+    def test_what_a_report_leaves_open(self):
+        report = "hullcert 1 stability\nmark C1 unsure\nmark C2 holds\nverdict undecided C1 interval 30 [0.054999,0.055001]\nend 5\n"
+        for second, is_good in [("holds", True), ("fails", False)]:
+            plain = f"hullcert 1 stability\nmark C1 fails\nmark C2 {second}\nverdict fail C1\nend 5\n"
+            self.assertEqual(agreement.agreement(report.encode(), plain.encode()).is_good(), is_good)
+
+    def test_the_ships(self):
+        made = ships.ships_in(self.room)
+        job = ship_job.read_job(made["heaviest"].job)
+        counts = [len(many) for many in (job.drafts, job.displacements, job.items, job.openings, job.cases, job.centres)]
+        self.assertEqual(counts, [64, 16, 256, 64, 32, 32])
+        if PROGRAM.exists():
+            for ship in made.values():
+                self.assertEqual(run([PROGRAM, "bonjean", ship.job, ship.offsets]).returncode, 0, ship.name)
 
 
 def counted(result, after):

@@ -16,7 +16,7 @@ impl Plane {
         Plane { c: 1.0, s: 0.0, level, rise: 0.0 }
     }
 
-    /// The upright plane of a level at mid-length and a trim, which is how much higher the level is at the last station.
+    /// The upright plane of a level at mid-length and a trim: how much higher the level is at the last station.
     pub fn trimmed(hull: &Hull, middle: f64, trim: f64) -> Plane {
         let rise = trim / hull.length();
         Plane { level: middle - rise * (hull.first_x + hull.last_x) / 2.0, rise, ..Plane::upright(0.0) }
@@ -94,7 +94,7 @@ pub fn mean_product(f: [f64; 3], g: [f64; 3]) -> f64 {
     (f[0] * g[0] + f[1] * g[1] + f[2] * g[2] + 9.0 * mean(f) * mean(g)) / 12.0
 }
 
-/// The volume below a plane in mm³, and the area of the waterplane in mm², which is by how much it rises with the level.
+/// The volume below a plane in mm³, and by how much it rises with the level: the area of the waterplane in mm².
 pub fn volume(faces: &[Face], plane: &Plane) -> (f64, f64) {
     let (mut volume, mut area) = (0.0, 0.0);
     each_wet(faces, plane, |seen, corners| {

@@ -34,8 +34,8 @@ pub fn levels(hull: &Hull, plane: &Plane) -> String {
     format!("{a:.1} {f:.1}")
 }
 
-/// The upright plane at which the load is balanced by what is left where slabs flood: trims are searched for, and at each
-/// of them the level at which enough is left.
+/// The upright plane at which the load is balanced by what is left where slabs flood: trims are searched for, and at
+/// each of them the level at which enough is left.
 pub fn settle(hull: &Hull, job: &Job, slabs: &[Slab], search: Search) -> Rest {
     let lost: Vec<Face> = slabs.iter().flat_map(|slab| flooded(hull, slab)).collect();
     let (need, x) = (job.displaced(job.load.mass), job.load.x);
@@ -54,7 +54,7 @@ pub fn settle(hull: &Hull, job: &Job, slabs: &[Slab], search: Search) -> Rest {
     };
     let mut moment = |trim: f64| {
         let left = left(hull, &lost, &plane_of(trim));
-        (left.x - need * x, (left.plane_xx - left.plane_x * left.plane_x / left.area) / hull.length())
+        (left.x - left.volume * x, (left.plane_xx - left.plane_x * left.plane_x / left.area) / hull.length())
     };
     for (end, trim) in [("fore", MOST_TRIM), ("aft", -MOST_TRIM)] {
         if moment(trim).0 * trim < 0.0 {

@@ -11,8 +11,10 @@ type Weighed = Result<Plane, String>;
 
 /// A safe and a next line for each centre of the job's plan.
 pub fn lines(hull: &Hull, job: &Job, search: Search) -> Vec<String> {
-    let centres = |plan: &Plan| plan.centres.iter().flat_map(|&centre| reach(hull, job, plan, centre, search)).collect();
-    job.plan.as_ref().map_or(Vec::new(), centres)
+    let lines = |plan: &Plan| {
+        plan.centres.iter().flat_map(|&centre| reach(hull, job, plan, centre, search)).collect()
+    };
+    job.plan.as_ref().map_or(Vec::new(), lines)
 }
 
 // Halves between no length and the first one that reaches past an end.

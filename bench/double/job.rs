@@ -44,7 +44,9 @@ impl Job {
         let tables = tables_of(text);
         let all = |name: &str| tables.iter().filter(move |table| table.name == name).collect::<Vec<_>>();
         let top = &tables[0];
-        let slabs: HashMap<&str, Slab> = all("compartment").iter().map(|table| (table.words("name")[0], table.slab())).collect();
+        let compartments = all("compartment");
+        let slabs: HashMap<_, _> = compartments.iter().map(|table| (table.words("name")[0], table.slab())).collect();
+        let flooded = |case: &&Table| case.words("flooded").iter().map(|name| slabs[name]).collect();
         Job {
             version: top.number("version", 1.0) as u32,
             density: top.number("density", 0.0),
@@ -53,8 +55,8 @@ impl Job {
             drafts: top.numbers("drafts"),
             displacements: top.numbers("displacements"),
             load: load_of(&all("item")),
-            openings: all("opening").iter().map(|table| (table.number("y", 0.0), table.number("z", 0.0))).collect(),
-            cases: all("damage").iter().map(|table| table.words("flooded").iter().map(|&name| slabs[name]).collect()).collect(),
+            openings: all("opening").iter().map(|one| (one.number("y", 0.0), one.number("z", 0.0))).collect(),
+            cases: all("damage").iter().map(flooded).collect(),
             plan: all("floodable").first().map(|table| table.plan()),
         }
     }
@@ -73,8 +75,8 @@ struct Table<'a> {
 
 impl Table<'_> {
     fn words(&self, key: &str) -> Vec<&str> {
-        let between = |part: char| "[], \"\n".contains(part);
-        self.values.get(key).map_or(Vec::new(), |value| value.split(between).filter(|word| !word.is_empty()).collect())
+        let value = self.values.get(key).map_or("", |value| value);
+        value.split(|part| "[], \"".contains(part)).filter(|word| !word.is_empty()).collect()
     }
 
     fn numbers(&self, key: &str) -> Vec<f64> {
@@ -110,7 +112,7 @@ fn tables_of(text: &str) -> Vec<Table<'_>> {
         if let Some((name, value)) = line.split_once('=') {
             key = name.trim();
             table.values.insert(key, value.to_string());
-        } else if let Some(value) = table.values.get_mut(key).filter(|value| value.contains('[') && !value.contains(']')) {
+        } else if let Some(value) = table.values.get_mut(key).filter(|value| is_open(value)) {
             value.push_str(line);
         } else if line.starts_with('[') {
             tables.push(Table { name: line.trim_matches(|part| "[] ".contains(part)), values: HashMap::new() });
@@ -119,14 +121,15 @@ fn tables_of(text: &str) -> Vec<Table<'_>> {
     tables
 }
 
+// Whether a list goes on in the next line.
+fn is_open(value: &str) -> bool {
+    value.contains('[') && !value.contains(']')
+}
+
 fn load_of(items: &[&Table]) -> Load {
-    let sum = |weight: &dyn Fn(&Table) -> f64| items.iter().map(|item| item.number("mass", 0.0) * weight(item)).sum::<f64>();
-    let mass = sum(&|_| 1.0);
-    let free: f64 = items.iter().map(|item| item.number("free_surface", 0.0)).sum();
-    Load {
-        mass,
-        x: sum(&|item| item.number("x", 0.0)) / mass,
-        y: sum(&|item| item.number("y", 0.0)) / mass,
-        z: (sum(&|item| item.number("z", 0.0)) + 1000.0 * free) / mass,
-    }
+    let of = |item: &Table, key| item.number(key, 0.0);
+    let mass: f64 = items.iter().map(|item| of(item, "mass")).sum();
+    let moment = |axis| items.iter().map(|item| of(item, "mass") * of(item, axis)).sum::<f64>();
+    let free: f64 = items.iter().map(|item| of(item, "free_surface")).sum();
+    Load { mass, x: moment("x") / mass, y: moment("y") / mass, z: (moment("z") + 1000.0 * free) / mass }
 }

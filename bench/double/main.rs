@@ -1,8 +1,8 @@
-//! The tables of hullcert in plain double precision, for bench/compare: COMMAND JOB OFFSETS, and `newton` where levels are
-//! to be searched for by Newton's steps and not by halving.
+//! The tables of hullcert in plain double precision, for bench/compare: COMMAND JOB OFFSETS, and `newton` where levels
+//! are to be searched for by Newton's steps and not by halving.
 //!
-//! The lines are those of the report, with one number where it has an interval or two levels. Files are read as they should
-//! be; what is wrong in one isn't looked for.
+//! The lines are those of the report, with one number where it has an interval or two levels. Files are taken to be
+//! right.
 
 mod below;
 mod bonjean;

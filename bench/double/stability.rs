@@ -28,7 +28,8 @@ pub fn lines(hull: &Hull, job: &Job, search: Search) -> Vec<String> {
         }
     });
     let sides = if job.version == 2 { &curves[..] } else { &curves[..1] };
-    let mut lines = vec![format!("upright {:.1} {:.6} {:.6} {:.6}", planes[0].level / GRID, kb * 1e-3, bm * 1e-3, gm * 1e-3)];
+    let [kb_m, bm_m, gm_m] = [kb, bm, gm].map(|mm| mm * 1e-3);
+    let mut lines = vec![format!("upright {:.1} {kb_m:.6} {bm_m:.6} {gm_m:.6}", planes[0].level / GRID)];
     for (at, plane) in planes.iter().enumerate() {
         let line = format!("arm {at} {:.1}", plane.level / GRID);
         lines.push(sides.iter().fold(line, |line, curve| {
