@@ -40,6 +40,8 @@ def sentence(halving, newton):
 
 def fields_of(words):
     """The words of a report's line, with (low, high, unit) in place of a figure and of two levels."""
+    if words[0] == "body":  # exact there, and above what a double has room for
+        return ["body", (int(words[1]), int(words[1]), 1)]
     fields, at, levels = [], 0, LEVELS_FROM.get(words[0], len(words))
     while at < len(words):
         if words[at].startswith("["):

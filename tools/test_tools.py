@@ -1499,7 +1499,7 @@ class Bench(Room):
         plain = DAMAGE.replace("[49.541766,49.541767]", "49.5417665").replace("[5.958233,5.958234]", "5.958234")
         plain = plain.replace("5837189 5837191 9468601 9468603", "5837190.0 9468604.0").replace("8516633 8516635 5644566 5644568", "8516634.5 5644567.5")
         found = agreement.agreement(DAMAGE.encode(), plain.encode())
-        self.assertEqual((found.figures, len(found.offs), found.others, found.is_good()), (6, 1, [], True))
+        self.assertEqual((found.figures, len(found.offs), found.others, found.is_good()), (7, 1, [], True))
         for old, new in [("9468604.0", "9468614.0"), ("8516634.5 5644567.5", "sinks 1.0"), ("5.958234", "5.958241"), ("end 7\n", "")]:
             self.assertFalse(agreement.agreement(DAMAGE.encode(), plain.replace(old, new).encode()).is_good(), new)
 
