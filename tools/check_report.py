@@ -20,10 +20,9 @@ so its marks C1 to C5 can't be followed; C6 is, by GM, and the verdict by the ma
 Prints what failed, with the number of the report's line, and then how much was checked of each kind. Ends with 0 where
 nothing failed, else with 1; with 1 too where a file can't be read, with the number of its line.
 
-Figures of hydro, cross and arm lines are held against their stated bounds of width, which allow more than the program
-needs. Not checked: widths of KB, BM and GM; values at waterplanes between those that are tried; why no start was found
-("nostart"); marks where the printed places leave them open; of make, marks C1 to C5 and the figures that a verdict shows
-of them.
+Figures of hydro, cross, upright and arm lines are held against their stated bounds of width, which allow more than the
+program needs. Not checked: values at waterplanes between those that are tried; why no start was found ("nostart"); marks
+where the printed places leave them open; of make, marks C1 to C5 and the figures that a verdict shows of them.
 """
 
 import argparse
@@ -315,6 +314,9 @@ class Examiner:
             kb, bm = below.z / need, self.hull.lid(plane.level).yy / need
             for name, figure, value in zip(("KB", "BM", "GM"), figures, (kb, bm, kb + bm - load.z)):
                 self.holds("upright figures", line, name, figure, value / MM)
+        bounds = stated_widths.upright_widths(self.hull, (low, high), need)
+        for (name, bound), figure in zip(bounds.items(), figures):
+            self.narrow(line, name, figure, bound)
 
     def check_arm(self, line):
         degree, low, high, *figures = line.fields

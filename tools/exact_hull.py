@@ -106,8 +106,28 @@ def six_volume(a, b, c, d):
     return abs(sum(p * q for p, q in zip(way(a, d), cross(way(a, b), way(a, c)))))
 
 
+class Face(NamedTuple):
+    """The heights of its corners from the lowest to the highest, and its area vector, twice the area long."""
+
+    heights: tuple
+    ax: int
+    ay: int
+    az: int
+
+    def share_below(self, level):
+        """What part of its area lies below an upright level plane."""
+        low, middle, high = self.heights
+        if level <= low:
+            return Fraction(0)
+        if level >= high:
+            return Fraction(1)
+        if level <= middle:
+            return Fraction(level - low) ** 2 / ((middle - low) * (high - low))
+        return 1 - Fraction(high - level) ** 2 / ((high - low) * (high - middle))
+
+
 def boundary_of(tetrahedra):
-    """The area vectors, twice the area long, of the faces that are left when those that cancel are taken away."""
+    """The faces that are left when those that cancel are taken away."""
     balance = {}
     for sign, (a, b, c, d) in tetrahedra:
         for face in ((b, c, d), (a, d, c), (a, b, d), (a, c, b)):
@@ -115,8 +135,8 @@ def boundary_of(tetrahedra):
             p, q, r = face[first:] + face[:first]
             key, side = ((p, q, r), sign) if q <= r else ((p, r, q), -sign)
             balance[key] = balance.get(key, 0) + side
-    areas = [(count, cross(way(p, q), way(p, r))) for (p, q, r), count in balance.items()]
-    return [area for count, area in areas if any(area) for _ in range(abs(count))]
+    faces = [(count, corners, cross(way(corners[0], corners[1]), way(corners[0], corners[2]))) for corners, count in balance.items()]
+    return [Face(tuple(sorted(z for _, _, z in corners)), *area) for count, corners, area in faces if any(area) for _ in range(abs(count))]
 
 
 # ---- Directions and degrees
@@ -259,7 +279,7 @@ class Hull:
         self.tetrahedra = [(six, corners) for six, corners in weighed if six]
         self.six = sum(six for six, _ in weighed)
         self.faces = boundary_of(signed)
-        self.half_areas = Fraction(sum(abs(ay) + abs(az) for _, ay, az in self.faces), 2)
+        self.half_areas = Fraction(sum(abs(face.ay) + abs(face.az) for face in self.faces), 2)
 
     def level_at(self, x, a, f):
         return a + (f - a) * Fraction(x - self.first_x, self.last_x - self.first_x)
@@ -314,10 +334,11 @@ class Hull:
         turns = [high - low for low, high in spans_of(bracket)]
         return 8 * (self.half_areas + 2 ** 17) * (max(turns) * self.reach(*levels) + Fraction(1, 2 ** 16))
 
-    def lid_width(self):
-        """How wide the program's interval of a waterplane's area may be at one upright level, in mm²."""
-        flat = Fraction(sum(abs(az) for _, _, az in self.faces), 2)
-        return flat / 2 ** 32 + Fraction(len(self.faces), 2 ** 18)
+    def lid_width(self, low, high):
+        """How wide the program's interval of a waterplane's area may be between two upright levels in grid units, in mm²."""
+        levels = Fraction(low, GRID), Fraction(high, GRID)
+        shares = [abs(face.az) * (face.share_below(levels[1]) - face.share_below(levels[0]) + Fraction(1, 2 ** 32)) for face in self.faces if face.az]
+        return exact_sum(shares) / 2 + Fraction(len(self.faces), 2 ** 18)
 
     def residual_width(self, slabs, a, f):
         """The same of a residual, in mm⁴."""

@@ -28,6 +28,13 @@ def lever_width(hull, bracket, levels, need, centre):
     return (moment / need + centre * turn_of(bracket) + ROUNDING) / MM
 
 
+def upright_widths(hull, levels, need):
+    """The bounds of KB, BM and GM in m, with two levels in grid units and the displaced volume."""
+    height = lever_width(hull, [UPRIGHT], levels, need, 0)
+    radius = (hull.half_breadth ** 2 * hull.lid_width(*levels) / need + ROUNDING) / MM
+    return {"KB": height, "BM": radius, "GM": height + radius}
+
+
 def quotient_width(part, value, whole, least):
     """Of a quotient, by the bounds of both, its magnitude and the least end of what it is divided by."""
     return (part + abs(value) * whole + least * ROUNDING) / least
@@ -36,7 +43,7 @@ def quotient_width(part, value, whole, least):
 def hydro_widths(hull, job, draft, row, values):
     """The bounds of a hydro line's figures, by their names."""
     level, x, y, density = draft * GRID, hull.last_x, hull.half_breadth, Fraction(job.density, T)
-    of_volume, of_area = hull.volume_width([UPRIGHT], level), hull.lid_width()
+    of_volume, of_area = hull.volume_width([UPRIGHT], level), hull.lid_width(level, level)
     volume, area = row["volume"].low * M3, row["area"].low * M2
     bounds = {"volume": of_volume / M3, "area": of_area / M2}
     bounds["displacement"] = width_of(row["volume"]) * density + ROUNDING

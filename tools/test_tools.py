@@ -1179,6 +1179,7 @@ PLANTED = [
     ("hydro 5000 ", [2], widened), ("hydro 5000 ", [9], widened), ("cross 10250000 40 ", [5], widened), ("arm 7 ", [4], widened),
     ("arm 8 ", [5], widened), ("arm 11 ", [2], moved(-500)), ("cross 10250000 30 ", [5], turned), ("cross 10250000 30 ", [3, 4], moved(7)), ("cross 10250000 57 ", [3, 4], moved(-7)),
     ("load ", [3], turned), ("load ", [1], moved(1000)), ("upright", [1], moved(-60)), ("upright", [5], turned),
+    ("upright", [3], widened), ("upright", [4], widened), ("upright", [5], widened),
     ("arm 45 ", [4], turned), ("arm 31 ", [5], turned), ("arm 0 ", [2], moved(-60)), ("arm 64 ", [2, 3], moved(9)),
     ("mark C4 ", [2], lambda word: "fails"), ("mark C6 ", [2], lambda word: "unsure"),
     ("verdict ", [1], lambda word: "fail C4 interval 40 [0.100000,0.100001]"),
@@ -1315,6 +1316,12 @@ class CheckReport(Room):
         self.assertEqual(self.hull.lid(10000).area, 2 * 10 ** 9)
         self.assertEqual(self.hull.left(5000, 5000, [(90000, 100000, 1000)]), (9 * 10 ** 12, 405 * 10 ** 15))
         self.assertEqual((len(self.hull.faces), self.hull.six), (32, 12 * 10 ** 13))
+        # no side rises as it is seen from above, and the deck, at 10000 mm, is wet above its height alone
+        narrow = Fraction(4 * 10 ** 9, 2 ** 32) + Fraction(32, 2 ** 18)
+        self.assertEqual(self.hull.lid_width(5000 * 1024, 5001 * 1024), narrow)
+        self.assertEqual(self.hull.lid_width(10000 * 1024, 10001 * 1024), narrow + 2 * 10 ** 9)
+        slope = exact_hull.Face((0, 4, 8), 0, 0, 1)
+        self.assertEqual([slope.share_below(level) for level in (0, 2, 4, 6, 8)], [0, Fraction(1, 8), Fraction(1, 2), Fraction(7, 8), 1])
 
 
 # ---- Hostile use
