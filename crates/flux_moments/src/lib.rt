@@ -3,6 +3,7 @@
 
 mod box_levels;
 mod corner;
+mod dry;
 mod face_columns;
 mod lid_sums;
 mod part_columns;
@@ -14,6 +15,7 @@ mod totals;
 mod wet;
 
 pub use box_levels::{ShipLength, trimmed_levels_at};
+pub use dry::are_dry;
 pub use lid_sums::{LidSums, lid};
 pub use plane_box::PlaneBox;
 pub use sums::{measure, volume_below};
