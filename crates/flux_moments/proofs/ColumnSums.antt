@@ -25,7 +25,7 @@ use Rattle.flux_moments.specs.Limits.{EndsAtMost}
 use Rattle.flux_moments.specs.Planes.{IsIn}
 use Rattle.flux_moments.specs.declared.plane_box.PlaneBox.{PlaneBox}
 use Rattle.flux_moments.specs.declared.wet.Wet.{Wet}
-use Rattle.flux_moments.specs.Wets.{CanAdd, IsSum, AreColumnEnds}
+use Rattle.flux_moments.specs.Wets.{AllFields, CanAdd, IsSum, AreColumnEnds}
 use Rattle.flux_moments.specs.Sizes.{BoxSize, HasSize, Reaches, AreReached, spread, doubled_area, volume_part, length_part, height_part}
 use Rattle.flux_moments.proofs.ProductEnds.{floor_at_most, ceiling_at_most}
 
@@ -178,18 +178,17 @@ module _ (planes : PlaneBox) (first last : ℤ) (faces : List Face) where
     pub mu : IsColumnSum (λ plane. column_integral plane first last (middle plane first last)) 4 (41 * 2 ^ 95) count sums.mu
     pub widths : (b : BoxSize) (h : Fraction) → AreReached planes faces b h → AreSumWidths (whole last) h (spread b h) (take count faces) sums
 
-  pub sums-start : (s : Span 20) → (s.lo ≡ pos 0) × (s.hi ≡ pos 0) → AreSums 0 (record { volume = s; mx = s; mv = s; mu = s })
+  pub sums-start : (s : Wet) → AllFields (λ s. (s.lo ≡ pos 0) × (s.hi ≡ pos 0)) s → AreSums 0 s
   sums-start s e = record {
-    volume = sum-start (IsIn planes) (λ plane. column_volume plane first last) 2 (7 * 2 ^ 75) (one_list faces) s e;
-    mx = sum-start (IsIn planes) (λ plane. column_integral plane first last (λ p. p.x)) 2 (5 * 2 ^ 97) (one_list faces) s e;
-    mv = sum-start (IsIn planes) (λ plane. column_integral plane first last (side_distance plane)) 2 (5 * 2 ^ 95) (one_list faces) s e;
-    mu = sum-start (IsIn planes) (λ plane. column_integral plane first last (middle plane first last)) 4 (41 * 2 ^ 95) (one_list faces) s e;
+    volume = sum-start (IsIn planes) (λ plane. column_volume plane first last) 2 (7 * 2 ^ 75) (one_list faces) s.volume e.0;
+    mx = sum-start (IsIn planes) (λ plane. column_integral plane first last (λ p. p.x)) 2 (5 * 2 ^ 97) (one_list faces) s.mx e.1;
+    mv = sum-start (IsIn planes) (λ plane. column_integral plane first last (side_distance plane)) 2 (5 * 2 ^ 95) (one_list faces) s.mv e.2;
+    mu = sum-start (IsIn planes) (λ plane. column_integral plane first last (middle plane first last)) 4 (41 * 2 ^ 95) (one_list faces) s.mu e.3;
     widths = λ b h are. record {
-      volume = narrow-start _ faces s e;
-      mx = narrow-start _ faces s e;
-      mv = narrow-start _ faces s e;
-      mu = narrow-start _
-          faces s e;
+      volume = narrow-start _ faces s.volume e.0;
+      mx = narrow-start _ faces s.mx e.1;
+      mv = narrow-start _ faces s.mv e.2;
+      mu = narrow-start _ faces s.mu e.3;
     };
   }
 

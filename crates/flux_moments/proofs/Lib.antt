@@ -16,6 +16,8 @@ pub mod BoxWidths
 pub mod PlaceLevels
 pub mod PartWidths
 pub mod ColumnWidths
+pub mod DryFaces
+pub mod DryLids
 pub mod FaceWidths
 pub mod TotalWidths
 pub mod LevelEnds

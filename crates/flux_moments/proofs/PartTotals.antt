@@ -13,7 +13,7 @@ use Rattle.flux_moments.specs.declared.wet.Wet.{Wet}
 use Rattle.flux_moments.specs.PartSizes.{part_area, ArePartWidths, ArePartSumWidths, ArePartsReached}
 use Rattle.flux_moments.specs.Planes.{IsIn}
 use Rattle.flux_moments.specs.Sizes.{BoxSize, HasSize, spread}
-use Rattle.flux_moments.specs.Wets.{IsSum}
+use Rattle.flux_moments.specs.Wets.{AllFields, IsSum}
 use Rattle.plane_clip.specs.Extents.{IsPartExtent}
 use Rattle.flux_moments.specs.Shared.{Shared, HoldShares, shared_column}
 use Rattle.plane_clip.proofs.EachLists.{each_at, each-length}
@@ -56,9 +56,9 @@ module _ (planes : PlaneBox) (first last : ℤ) (parts : List Part) where
     pub mu : IsPartSum (λ plane. shared_column plane first last (middle plane first last)) 4 (41 * 2 ^ 95) count sums.mu
     pub widths : (b : BoxSize) (h : Fraction) (y z : ℕ) → ArePartsReached planes parts b h y z → ArePartSumWidths (whole last) h (spread b h) (take count parts) sums
 
-  pub widths-start : (s : Span 20) → (s.lo ≡ pos 0) × (s.hi ≡ pos 0) → (b : BoxSize) (h : Fraction) (y z : ℕ) → ArePartsReached planes parts b h y z
-      → ArePartSumWidths (whole last) h (spread b h) (take 0 parts) (record { volume = s; mx = s; mv = s; mu = s })
-  widths-start s e b h y z are = record { volume = narrow-start _ parts s e; mx = narrow-start _ parts s e; mv = narrow-start _ parts s e; mu = narrow-start _ parts s e }
+  pub widths-start : (s : Wet) → AllFields (λ s. (s.lo ≡ pos 0) × (s.hi ≡ pos 0)) s → (b : BoxSize) (h : Fraction) (y z : ℕ) → ArePartsReached planes parts b h y z
+      → ArePartSumWidths (whole last) h (spread b h) (take 0 parts) s
+  widths-start s e b h y z are = record { volume = narrow-start _ parts s.volume e.0; mx = narrow-start _ parts s.mx e.1; mv = narrow-start _ parts s.mv e.2; mu = narrow-start _ parts s.mu e.3 }
 
   -- one part more
   pub widths-more : (count : ℕ) (p : Part) (sums columns result : Wet) → count < length parts → p ≡ get_or parts count p

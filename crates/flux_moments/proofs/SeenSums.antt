@@ -15,12 +15,11 @@ use Rattle.std.specs.List.{AllByRecursion}
 use Rattle.exact_algebra.proofs.Whole.{whole}
 use Rattle.hull_polyhedron.specs.Between.{IsInside, LieInside}
 use Rattle.outward_interval.specs.Ends.{AreEnds}
-use Rattle.outward_interval.specs.declared.span.Span.{Span}
 use Rattle.flux_moments.specs.Columns.{lid_part}
 use Rattle.flux_moments.specs.Planes.{IsIn}
 use Rattle.flux_moments.specs.declared.lid_sums.LidSums.{LidSums}
 use Rattle.flux_moments.specs.declared.plane_box.PlaneBox.{PlaneBox}
-use Rattle.flux_moments.specs.LidWidths.{AreSeenWidths, AreLidWidths}
+use Rattle.flux_moments.specs.LidWidths.{IsNoLid, AreSeenWidths, AreLidWidths}
 use Rattle.flux_moments.proofs.ColumnSums.{one_list, IsSumOf, sum-start, all_at, narrow-start, narrow-step, narrow-end}
 
 module _ (planes : PlaneBox) (first last : ℤ) (faces : List Face) where
@@ -36,18 +35,17 @@ module _ (planes : PlaneBox) (first last : ℤ) (faces : List Face) where
     pub widths : (d1 d2 half_breadth height : ℤ) → IsLevelBox planes d1 d2 → LieInside half_breadth height faces → AreLidWidths first last d1 d2
         (whole last) (whole half_breadth) (take count faces) sums
 
-  pub lid-start : (s : Span 20) → (s.lo ≡ pos 0) × (s.hi ≡ pos 0) → AreLidSums 0 (record { area = s; sx = s; syy = s; sxx = s })
+  pub lid-start : (s : LidSums) → IsNoLid s → AreLidSums 0 s
   lid-start s e = record {
-    area = sum-start IsLevel _ 2 (2 ^ 58) (one_list faces) s e;
-    sx = sum-start IsLevel _ 2 (2 ^ 79) (one_list faces) s e;
-    syy = sum-start IsLevel _ 2 (2 ^ 100) (one_list faces) s e;
-    sxx = sum-start IsLevel _ 2 (2 ^ 100) (one_list faces) s e;
+    area = sum-start IsLevel _ 2 (2 ^ 58) (one_list faces) s.area e.0;
+    sx = sum-start IsLevel _ 2 (2 ^ 79) (one_list faces) s.sx e.1;
+    syy = sum-start IsLevel _ 2 (2 ^ 100) (one_list faces) s.syy e.2;
+    sxx = sum-start IsLevel _ 2 (2 ^ 100) (one_list faces) s.sxx e.3;
     widths = λ d1 d2 half_breadth height is inside. record {
-      area = narrow-start _ faces s e;
-      sx = narrow-start _ faces s e;
-      syy = narrow-start _
-          faces s e;
-      sxx = narrow-start _ faces s e;
+      area = narrow-start _ faces s.area e.0;
+      sx = narrow-start _ faces s.sx e.1;
+      syy = narrow-start _ faces s.syy e.2;
+      sxx = narrow-start _ faces s.sxx e.3;
     };
   }
 

@@ -1,5 +1,5 @@
 -- How wide what is seen of faces from above may be.
-use Rattle.std.specs.Prelude.{ℤ, List}
+use Rattle.std.specs.Prelude.{◌≡◌, ℤ, pos, List}
 use Rattle.exact_algebra.proofs.Fraction.{Fraction, one, ◌⊕◌, ◌⊗◌, ◌⊖◌}
 use Rattle.hull_model.specs.declared.face.Face.{Face}
 use Rattle.hull_model.specs.Fractions.{sum_over}
@@ -24,6 +24,10 @@ pub record AreSeenWidths (first last d1 d2 : ℤ) (x y : Fraction) (f : Face) (s
   pub sx : IsNarrow 20 (seen_part_bound first last d1 d2 x f) seen.sx.lo seen.sx.hi
   pub syy : IsNarrow 20 (seen_part_bound first last d1 d2 (y ⊗ y) f) seen.syy.lo seen.syy.hi
   pub sxx : IsNarrow 20 (seen_part_bound first last d1 d2 (x ⊗ x) f) seen.sxx.lo seen.sxx.hi
+
+-- no lid: each integral is 0
+abbrev pub IsNoLid : LidSums → Type 0
+IsNoLid l = ((l.area.lo ≡ pos 0) × (l.area.hi ≡ pos 0)) × ((l.sx.lo ≡ pos 0) × (l.sx.hi ≡ pos 0)) × ((l.syy.lo ≡ pos 0) × (l.syy.hi ≡ pos 0)) × ((l.sxx.lo ≡ pos 0) × (l.sxx.hi ≡ pos 0))
 
 -- and of all
 pub record AreLidWidths (first last d1 d2 : ℤ) (x y : Fraction) (faces : List Face) (sums : LidSums) : Type 0 where

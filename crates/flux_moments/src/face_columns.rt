@@ -20,6 +20,7 @@ ghost use Rattle.flux_moments.specs.Wets.{AreEndsAtMost, AreColumnEnds};
 ghost use Rattle.flux_moments.specs.Sizes.{BoxSize, HasSize, Reaches, spread, doubled_area, column_width, product_width, volume_part};
 
 use crate::corner::{Corner, depth_of, times_cosine, times_sine};
+use crate::dry::{are_dry, is_nothing, nothing};
 use crate::{PlaneBox, ShipLength, Wet};
 use hull_model::Face;
 use outward_interval::Span;
@@ -38,10 +39,22 @@ pub(crate) fn columns(face: &Face, planes: &PlaneBox, way: ShipLength) -> Wet
     ensures widths { (b : BoxSize) (h : Fraction) → HasSize planes.now b → one ≼ h → AllByRecursion (Reaches b h) face.now.p → AreColumnWidths (whole way.last) h (spread b h) (doubled_area face.now) result }
 {
     let [p, q, r] = face.p;
+    let depths = [
+        depth_of(planes, way, p),
+        depth_of(planes, way, q),
+        depth_of(planes, way, r),
+    ];
+    if are_dry(&depths) {
+        return Wet::nothing();
+    }
+    let factor = factor_of(face, planes);
+    if is_nothing(factor) {
+        return Wet::nothing();
+    }
     let first = Corner::of(planes, way, p);
     let second = Corner::of(planes, way, q);
     let third = Corner::of(planes, way, r);
-    columns_at(&first, &second, &third, factor_of(face, planes))
+    columns_at(&first, &second, &third, factor)
 }
 
 /// Twice the volume of the column between the wet part of a face and the waterplane, with its sign.
@@ -56,8 +69,16 @@ pub(crate) fn volume_column(face: &Face, planes: &PlaneBox, way: ShipLength) -> 
     let first = depth_of(planes, way, p);
     let second = depth_of(planes, way, q);
     let third = depth_of(planes, way, r);
-    let means = wet_depths([first, second, third]);
-    means.depth.scaled_by(factor_of(face, planes))
+    let depths = [first, second, third];
+    if are_dry(&depths) {
+        return nothing();
+    }
+    let factor = factor_of(face, planes);
+    if is_nothing(factor) {
+        return nothing();
+    }
+    let means = wet_depths(depths);
+    means.depth.scaled_by(factor)
 }
 
 /// The integrals over the columns of a triangle with these corners, with a factor for its area.

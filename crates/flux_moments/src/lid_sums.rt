@@ -18,13 +18,13 @@ ghost use Rattle.outward_interval.specs.declared.span.Span as span;
 ghost use Rattle.plane_clip.specs.Enclosure.{Each, EnclosesMean, IsNoWider, CornerDepths, AreWithin, corner_means, pair_means};
 ghost use Rattle.flux_moments.specs.Columns.{lid_part, lid_parts, linear_at, square_at};
 ghost use Rattle.flux_moments.specs.Limits.{AreLevels, EndsAtMost, EndsLess};
-ghost use Rattle.flux_moments.specs.LidWidths.{AreSeenWidths, AreLidWidths, rise_between};
+ghost use Rattle.flux_moments.specs.LidWidths.{IsNoLid, AreSeenWidths, AreLidWidths, rise_between};
 ghost use Rattle.flux_moments.specs.Planes.{IsIn};
 ghost use Rattle.flux_moments.specs.Sizes.{IsLevelBox};
 ghost use Rattle.flux_moments.specs.Widths.{lid_bound};
 
 use crate::corner::depth_of;
-use crate::sums::nothing;
+use crate::dry::{are_dry, nothing};
 use crate::{PlaneBox, ShipLength};
 use hull_model::Face;
 use hull_polyhedron::Faces;
@@ -38,6 +38,21 @@ pub struct LidSums {
     pub sx: Span<20>,
     pub syy: Span<20>,
     pub sxx: Span<20>,
+}
+
+impl LidSums {
+    /// No lid.
+    fn nothing() -> LidSums
+        ensures { IsNoLid result }
+    {
+        let none = nothing();
+        LidSums {
+            area: none,
+            sx: none,
+            syy: none,
+            sxx: none,
+        }
+    }
 }
 
 /// EnclosesMean the area of a hull's lid and the integrals over it, for each upright level plane from `d1` to `d2`, in grid
@@ -109,13 +124,7 @@ fn seen_sums(faces: &[Face], planes: &PlaneBox, way: ShipLength) -> LidSums
     ensures widths { (d1 d2 half_breadth height : ℤ) → IsLevelBox planes.now d1 d2 → LieInside half_breadth height faces.now → AreLidWidths way.first way.last d1 d2 (whole way.last) (whole half_breadth) faces.now result }
     ensures none { length faces.now ≡ 0 → ((result.area.lo ≡ pos 0) × (result.area.hi ≡ pos 0)) × ((result.sx.lo ≡ pos 0) × (result.sx.hi ≡ pos 0)) × ((result.syy.lo ≡ pos 0) × (result.syy.hi ≡ pos 0)) × ((result.sxx.lo ≡ pos 0) × (result.sxx.hi ≡ pos 0)) }
 {
-    let none = nothing();
-    let mut sums = LidSums {
-        area: none,
-        sx: none,
-        syy: none,
-        sxx: none,
-    };
+    let mut sums = LidSums::nothing();
     for face in faces {
         let part = seen_part(face, planes, way);
         sums = LidSums {
@@ -143,11 +152,18 @@ fn seen_part(face: &Face, planes: &PlaneBox, way: ShipLength) -> LidSums
     ensures sxx_ends { EndsAtMost (2 ^ 100) result.sxx.lo result.sxx.hi }
     ensures widths { (d1 d2 half_breadth height : ℤ) → IsLevelBox planes.now d1 d2 → AllByRecursion (IsInside half_breadth height) face.now.p → AreSeenWidths way.first way.last d1 d2 (whole way.last) (whole half_breadth) face.now result }
 {
+    if face.az == 0 {
+        return LidSums::nothing();
+    }
     let [p, q, r] = face.p;
     let first = depth_of(planes, way, p);
     let second = depth_of(planes, way, q);
     let third = depth_of(planes, way, r);
-    let means = wet([first, second, third]);
+    let depths = [first, second, third];
+    if are_dry(&depths) {
+        return LidSums::nothing();
+    }
+    let means = wet(depths);
     let area = area_from_above(face);
     LidSums {
         area: seen(means.share, area),

@@ -23,6 +23,7 @@ ghost use Rattle.flux_moments.specs.Wets.{AllFields, AreColumnEnds};
 ghost use Rattle.flux_moments.specs.Sizes.{BoxSize, AreReached, spread, doubled_area, volume_part};
 ghost use Rattle.flux_moments.specs.Widths.{reach_of, volume_bound};
 
+use crate::dry::nothing;
 use crate::face_columns::{columns, volume_column};
 use crate::{PlaneBox, ShipLength, Wet};
 use hull_model::Face;
@@ -113,25 +114,9 @@ fn column_sums(faces: &[Face], planes: &PlaneBox, way: ShipLength) -> Wet
     ensures mu { (plane : Waterplane) → IsIn planes.now plane → ContainsFraction 20 result.mu.lo result.mu.hi (columns_mu plane way.first way.last faces.now ⊗ whole (pos 4)) }
     ensures widths { (b : BoxSize) (h : Fraction) → AreReached planes.now faces.now b h → AreSumWidths (whole way.last) h (spread b h) faces.now result }
 {
-    let none = nothing();
-    let mut sums = Wet {
-        volume: none,
-        mx: none,
-        mv: none,
-        mu: none,
-    };
+    let mut sums = Wet::nothing();
     for face in faces {
         sums = sums + columns(face, planes, way);
     }
     sums
-}
-
-/// The span of 0 alone.
-pub(crate) fn nothing() -> Span<20>
-    ensures { (result.lo ≡ pos 0) × (result.hi ≡ pos 0) }
-{
-    match Span::new(0, 0) {
-        Some(span) => span,
-        None => unreachable!(),
-    }
 }

@@ -17,7 +17,6 @@ ghost use Rattle.flux_moments.specs.Shared.{Shared, HoldShares, shared_columns};
 ghost use Rattle.flux_moments.specs.Wets.{AllFields, AreColumnEnds};
 
 use crate::part_columns::part_columns;
-use crate::sums::nothing;
 use crate::{PlaneBox, ShipLength, Wet};
 use hull_polyhedron::Faces;
 use plane_clip::Part;
@@ -64,13 +63,7 @@ fn doubled_sums(parts: &[Part], planes: &PlaneBox, way: ShipLength) -> Wet
     ensures ends { AreColumnEnds 4194303 result }
     ensures widths { (b : BoxSize) (h : Fraction) (y z : ℕ) → ArePartsReached planes.now parts.now b h y z → ArePartSumWidths (whole way.last) h (spread b h) parts.now result }
 {
-    let none = nothing();
-    let mut sums = Wet {
-        volume: none,
-        mx: none,
-        mv: none,
-        mu: none,
-    };
+    let mut sums = Wet::nothing();
     for part in parts {
         sums = sums + part_columns(part, planes, way);
     }

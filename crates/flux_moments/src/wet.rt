@@ -1,7 +1,8 @@
 // The integrals of a wet body.
-ghost use Rattle.std.specs.Prelude.{◌≡◌};
-ghost use Rattle.flux_moments.specs.Wets.{CanAdd, CanSub, IsSum, IsDifference};
+ghost use Rattle.std.specs.Prelude.{◌≡◌, pos};
+ghost use Rattle.flux_moments.specs.Wets.{AllFields, CanAdd, CanSub, IsSum, IsDifference};
 
+use crate::dry::nothing;
 use outward_interval::Span;
 use std::ops::{Add, Sub};
 
@@ -13,6 +14,21 @@ pub struct Wet {
     pub mx: Span<20>,
     pub mv: Span<20>,
     pub mu: Span<20>,
+}
+
+impl Wet {
+    /// No body.
+    pub(crate) fn nothing() -> Wet
+        ensures { AllFields (λ s. (s.lo ≡ pos 0) × (s.hi ≡ pos 0)) result }
+    {
+        let none = nothing();
+        Wet {
+            volume: none,
+            mx: none,
+            mv: none,
+            mu: none,
+        }
+    }
 }
 
 /// Field by field: the ends of each sum must stay below 2^126 in magnitude.

@@ -1,4 +1,4 @@
-use Rattle.std.proofs.Common.{◌^◌, refl, [], ◌∷◌, get_or, arith}
+use Rattle.std.proofs.Common.{rules, inl, inr, pos, ◌≡◌, ◌^◌, refl, [], ◌∷◌, get_or, arith}
 use Rattle.std.proofs.lemmas.Int.{ints, to_z-of_z}
 use Rattle.std.specs.Int.{w64}
 use mir.Val.{SFits}
@@ -16,6 +16,9 @@ use Rattle.outward_interval.specs.Widths.{units}
 use Rattle.plane_clip.proofs.FaceSizes.{three_corners}
 use Rattle.flux_moments.proofs.BoxWidths.{far_at_most}
 use Rattle.flux_moments.proofs.SeenWidths.{share_is, seen-area, seen-bound, fewer_units, across_at_most, nonnegative_far}
+use Rattle.flux_moments.proofs.DryFaces.{dry_within}
+use Rattle.flux_moments.proofs.DryLids.{no_area, no_lever, no_second, no_lid_narrow}
+use Rattle.flux_moments.proofs.PartWidths.{nonnegative_last}
 use Rattle.flux_moments.proofs.lid_sums.seen_part.Goals as goal
 
 pub square_mean-requires-clause-u : goal.square_mean-requires-clause-u
@@ -145,3 +148,79 @@ returns-clause-widths c d1 d2 half_breadth height is inside =
           (Order.≼_refl fractions (units 40 144))
           (simp to_z-of_z at (c.seen-4.ensures.narrow _ (square_x x y z (whole last) c.wet-means.ensures.pair_width far1 far2 far3)));
     }
+
+pub returns-then-face-eq0-clause-area : goal.returns-then-face-eq0-clause-area
+returns-then-face-eq0-clause-area c at is =
+    let first = c.args.way.first in
+    let last = c.args.way.last in
+    let face = c.args.face.now in
+    let none : face.az ≡ pos 0 = search rules in
+    no_area at first last face c.requires.face (inr none) c.nothing.ensures.0
+
+pub returns-then-face-eq0-clause-sx : goal.returns-then-face-eq0-clause-sx
+returns-then-face-eq0-clause-sx c at is =
+    let first = c.args.way.first in
+    let last = c.args.way.last in
+    let face = c.args.face.now in
+    let none : face.az ≡ pos 0 = search rules in
+    no_lever at first last face c.requires.face (λ p. p.x) (inr none) c.nothing.ensures.1
+
+pub returns-then-face-eq0-clause-syy : goal.returns-then-face-eq0-clause-syy
+returns-then-face-eq0-clause-syy c at is =
+    let first = c.args.way.first in
+    let last = c.args.way.last in
+    let face = c.args.face.now in
+    let none : face.az ≡ pos 0 = search rules in
+    no_second at first last face c.requires.face (λ p. p.y) (inr none) c.nothing.ensures.2
+
+pub returns-then-face-eq0-clause-sxx : goal.returns-then-face-eq0-clause-sxx
+returns-then-face-eq0-clause-sxx c at is =
+    let first = c.args.way.first in
+    let last = c.args.way.last in
+    let face = c.args.face.now in
+    let none : face.az ≡ pos 0 = search rules in
+    no_second at first last face c.requires.face (λ p. p.x) (inr none) c.nothing.ensures.3
+
+pub returns-then-face-eq0-clause-widths : goal.returns-then-face-eq0-clause-widths
+returns-then-face-eq0-clause-widths c d1 d2 half_breadth height is inside =
+    let way = c.args.way in
+    no_lid_narrow way.first way.last d1 d2 (rw (is.aft.0, is.aft.1) at c.args.planes.now.levels.aft) c.args.face.now (whole way.last) (whole half_breadth)
+    (nonnegative_last way.first way.last way.start.0 way.forwards) c.nothing.result c.nothing.ensures
+
+pub returns-then-are_dry-clause-area : goal.returns-then-are_dry-clause-area
+returns-then-are_dry-clause-area c at is =
+    let first = c.args.way.first in
+    let last = c.args.way.last in
+    let face = c.args.face.now in
+    no_area at first last face c.requires.face (inl (dry_within (c.depth_of-first.result ∷ c.depth_of-second.result ∷ c.depth_of-third.result ∷ []) (lid_depths at first last face c.requires.face) (c.are_dry.ensures.0 c.if-are_dry.true)
+    (c.depth_of-first.ensures.contains (upright at) is, c.depth_of-second.ensures.contains (upright at) is, c.depth_of-third.ensures.contains (upright at) is))) c.nothing-then-are_dry.ensures.0
+
+pub returns-then-are_dry-clause-sx : goal.returns-then-are_dry-clause-sx
+returns-then-are_dry-clause-sx c at is =
+    let first = c.args.way.first in
+    let last = c.args.way.last in
+    let face = c.args.face.now in
+    no_lever at first last face c.requires.face (λ p. p.x) (inl (dry_within (c.depth_of-first.result ∷ c.depth_of-second.result ∷ c.depth_of-third.result ∷ []) (lid_depths at first last face c.requires.face) (c.are_dry.ensures.0 c.if-are_dry.true)
+    (c.depth_of-first.ensures.contains (upright at) is, c.depth_of-second.ensures.contains (upright at) is, c.depth_of-third.ensures.contains (upright at) is))) c.nothing-then-are_dry.ensures.1
+
+pub returns-then-are_dry-clause-syy : goal.returns-then-are_dry-clause-syy
+returns-then-are_dry-clause-syy c at is =
+    let first = c.args.way.first in
+    let last = c.args.way.last in
+    let face = c.args.face.now in
+    no_second at first last face c.requires.face (λ p. p.y) (inl (dry_within (c.depth_of-first.result ∷ c.depth_of-second.result ∷ c.depth_of-third.result ∷ []) (lid_depths at first last face c.requires.face) (c.are_dry.ensures.0 c.if-are_dry.true)
+    (c.depth_of-first.ensures.contains (upright at) is, c.depth_of-second.ensures.contains (upright at) is, c.depth_of-third.ensures.contains (upright at) is))) c.nothing-then-are_dry.ensures.2
+
+pub returns-then-are_dry-clause-sxx : goal.returns-then-are_dry-clause-sxx
+returns-then-are_dry-clause-sxx c at is =
+    let first = c.args.way.first in
+    let last = c.args.way.last in
+    let face = c.args.face.now in
+    no_second at first last face c.requires.face (λ p. p.x) (inl (dry_within (c.depth_of-first.result ∷ c.depth_of-second.result ∷ c.depth_of-third.result ∷ []) (lid_depths at first last face c.requires.face) (c.are_dry.ensures.0 c.if-are_dry.true)
+    (c.depth_of-first.ensures.contains (upright at) is, c.depth_of-second.ensures.contains (upright at) is, c.depth_of-third.ensures.contains (upright at) is))) c.nothing-then-are_dry.ensures.3
+
+pub returns-then-are_dry-clause-widths : goal.returns-then-are_dry-clause-widths
+returns-then-are_dry-clause-widths c d1 d2 half_breadth height is inside =
+    let way = c.args.way in
+    no_lid_narrow way.first way.last d1 d2 (rw (is.aft.0, is.aft.1) at c.args.planes.now.levels.aft) c.args.face.now (whole way.last) (whole half_breadth)
+    (nonnegative_last way.first way.last way.start.0 way.forwards) c.nothing-then-are_dry.result c.nothing-then-are_dry.ensures

@@ -6,7 +6,7 @@ use Rattle.flux_moments.proofs.SeenSums.{IsLevel, lid-start, lid-more, lid-end}
 use Rattle.flux_moments.proofs.lid_sums.seen_sums.Goals as goal
 
 pub loop-face-init : goal.loop-face-init
-loop-face-init c = lid-start c.args.planes.now c.args.way.first c.args.way.last c.args.faces.now c.nothing-none.result c.nothing-none.ensures
+loop-face-init c = lid-start c.args.planes.now c.args.way.first c.args.way.last c.args.faces.now c.nothing-sums.result c.nothing-sums.ensures
 
 pub add-requires : goal.add-requires
 add-requires c = (

@@ -9,7 +9,7 @@ use Rattle.flux_moments.proofs.ColumnSums.{one_list, narrow-end, sums-start, sum
 use Rattle.flux_moments.proofs.sums.column_sums.Goals as goal
 
 pub loop-face-init : goal.loop-face-init
-loop-face-init c = sums-start c.args.planes.now c.args.way.first c.args.way.last c.args.faces.now c.nothing-none.result c.nothing-none.ensures
+loop-face-init c = sums-start c.args.planes.now c.args.way.first c.args.way.last c.args.faces.now c.nothing-sums.result c.nothing-sums.ensures
 
 pub add-sums-requires : goal.add-sums-requires
 add-sums-requires c = sums-fit c.args.planes.now c.args.way.first c.args.way.last c.args.faces.now c.loop-face.face-index c.loop-face.sums

@@ -11,11 +11,11 @@ use Rattle.flux_moments.proofs.totals.doubled_sums.Goals as goal
 
 pub loop-part-init : goal.loop-part-init
 loop-part-init c = record {
-  volume = sum-start (IsHeld c.args.planes.now c.args.way.first c.args.way.last c.args.parts.now) _ 2 (7 * 2 ^ 75) (held_triangles c.args.planes.now c.args.way.first c.args.way.last c.args.parts.now) c.nothing-none.result c.nothing-none.ensures;
-  mx = sum-start (IsHeld c.args.planes.now c.args.way.first c.args.way.last c.args.parts.now) _ 2 (5 * 2 ^ 97) (held_triangles c.args.planes.now c.args.way.first c.args.way.last c.args.parts.now) c.nothing-none.result c.nothing-none.ensures;
-  mv = sum-start (IsHeld c.args.planes.now c.args.way.first c.args.way.last c.args.parts.now) _ 2 (5 * 2 ^ 95) (held_triangles c.args.planes.now c.args.way.first c.args.way.last c.args.parts.now) c.nothing-none.result c.nothing-none.ensures;
-  mu = sum-start (IsHeld c.args.planes.now c.args.way.first c.args.way.last c.args.parts.now) _ 4 (41 * 2 ^ 95) (held_triangles c.args.planes.now c.args.way.first c.args.way.last c.args.parts.now) c.nothing-none.result c.nothing-none.ensures;
-  widths = widths-start c.args.planes.now c.args.way.first c.args.way.last c.args.parts.now c.nothing-none.result c.nothing-none.ensures;
+  volume = sum-start (IsHeld c.args.planes.now c.args.way.first c.args.way.last c.args.parts.now) _ 2 (7 * 2 ^ 75) (held_triangles c.args.planes.now c.args.way.first c.args.way.last c.args.parts.now) c.nothing-sums.result.volume c.nothing-sums.ensures.0;
+  mx = sum-start (IsHeld c.args.planes.now c.args.way.first c.args.way.last c.args.parts.now) _ 2 (5 * 2 ^ 97) (held_triangles c.args.planes.now c.args.way.first c.args.way.last c.args.parts.now) c.nothing-sums.result.mx c.nothing-sums.ensures.1;
+  mv = sum-start (IsHeld c.args.planes.now c.args.way.first c.args.way.last c.args.parts.now) _ 2 (5 * 2 ^ 95) (held_triangles c.args.planes.now c.args.way.first c.args.way.last c.args.parts.now) c.nothing-sums.result.mv c.nothing-sums.ensures.2;
+  mu = sum-start (IsHeld c.args.planes.now c.args.way.first c.args.way.last c.args.parts.now) _ 4 (41 * 2 ^ 95) (held_triangles c.args.planes.now c.args.way.first c.args.way.last c.args.parts.now) c.nothing-sums.result.mu c.nothing-sums.ensures.3;
+  widths = widths-start c.args.planes.now c.args.way.first c.args.way.last c.args.parts.now c.nothing-sums.result c.nothing-sums.ensures;
 }
 
 pub part_columns-requires : goal.part_columns-requires
