@@ -11,4 +11,5 @@ pub mod UprightColumns
 pub mod UprightSums
 pub mod UprightBoxes
 pub mod UprightParts
+pub mod UprightDry
 pub mod UprightPartSums

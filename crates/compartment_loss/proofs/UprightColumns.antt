@@ -1,13 +1,12 @@
 -- The columns between a face and an upright plane: their values, and how wide they are.
 use Rattle.std.proofs.Common.{◌≡◌, ◌≢◌, ◌∙◌, refl, sym, ap, ap₂, [], ◌∷◌, ℕ, ◌+◌, ◌^◌, ◌<◌, ◌≤◌, ℤ, pos, neg_ℤ, ◌+ℤ◌, ◌-ℤ◌, ◌*ℤ◌, ◌≤ℤ◌, unsigned_abs, arith}
 use Rattle.std.proofs.lemmas.Int.{ints}
-use Rattle.exact_algebra.specs.Expression.{var, unit, number, ◌:+◌, ◌:-◌, ◌:*◌, opposite}
+use Rattle.exact_algebra.specs.Expression.{var, unit, number, ◌:+◌, ◌:*◌, opposite}
 use Rattle.exact_algebra.specs.OrderedField.{below}
 use Rattle.exact_algebra.proofs.Fraction.{Fraction, nought, ◌⊕◌, ◌⊗◌, negative, sign, fractions, fraction_ring, ◌≼◌}
 use Rattle.exact_algebra.proofs.Order as Order
 use Rattle.exact_algebra.proofs.Order.{order_from, no_more, at_most, scaled}
 use Rattle.exact_algebra.proofs.Ring.{ring}
-use Rattle.exact_algebra.proofs.Span.{ContainsFraction, in_units, positive-unit, contains_whole}
 use Rattle.exact_algebra.proofs.Whole.{whole, whole-nought, whole-negative, whole-≼, nonnegative-whole}
 use Rattle.exact_fraction.specs.Bounds.{MagnitudeBelow}
 use Rattle.hull_model.specs.declared.face.Face.{Face}
@@ -25,6 +24,7 @@ use Rattle.flux_moments.specs.Limits.{EndsAtMost, EndsLess}
 use Rattle.flux_moments.specs.Planes.{IsIn}
 use Rattle.flux_moments.specs.Sizes.{AreSizes, doubled_area, volume_part, length_part}
 use Rattle.flux_moments.specs.declared.plane_box.PlaneBox.{PlaneBox}
+use Rattle.flux_moments.proofs.DryFaces.{none_narrow}
 use Rattle.flux_moments.proofs.FaceColumns.{depths, doubled_seen, volume_doubled, moment_doubled}
 use Rattle.flux_moments.proofs.FaceWidths.{width_at, some, far}
 use Rattle.flux_moments.proofs.MeanWidths.{depths_of, depth-narrow, weighted_widths, nonnegative_weighted_width}
@@ -50,18 +50,9 @@ module _ (planes : PlaneBox) (upright : IsUpright planes) (plane : Waterplane) (
       (((var 0 :* var 3 :+ var 1 :* var 4) :+ var 2 :* var 5) :* var 6) (((var 0 :* var 6) :* var 3 :+ (var 1 :* var 6) :* var 4) :+ (var 2 :* var 6) :* var 5) refl
       ∙ moment_doubled plane first last f face (λ p. p.x)
 
-  -- none where nothing is seen from above
-  no_seen : (x : Fraction) → f.az ≡ pos 0 → x ⊗ whole (neg_ℤ f.az) ≡ nought
-  no_seen x e = ap (λ z. x ⊗ whole (neg_ℤ z)) e ∙ ap (λ y. x ⊗ y) whole-nought ∙ ring fraction_ring (x ∷ []) (var 0 :* number 0) (number 0) refl
-
-  none_contained : {lo hi : ℤ} (y : Fraction) → (lo ≡ pos 0) × (hi ≡ pos 0) → nought ≡ y → ContainsFraction 20 lo hi y
-  none_contained y e same = rw (e.0, e.1, ← same, ← whole-nought) (contains_whole 20 (pos 0))
-
-  pub no_volume : {lo hi : ℤ} → f.az ≡ pos 0 → (lo ≡ pos 0) × (hi ≡ pos 0) → ContainsFraction 20 lo hi (column_volume plane first last f ⊗ whole (pos 2))
-  no_volume e zero = none_contained _ zero (sym (no_seen _ e) ∙ volume_is)
-
-  pub no_mx : {lo hi : ℤ} → f.az ≡ pos 0 → (lo ≡ pos 0) × (hi ≡ pos 0) → ContainsFraction 20 lo hi (column_integral plane first last (λ p. p.x) f ⊗ whole (pos 2))
-  no_mx e zero = none_contained _ zero (sym (no_seen _ e) ∙ mx_is)
+  -- seen edgewise from above
+  pub edgewise : f.az ≡ pos 0 → doubled_seen plane first last f face ≡ nought
+  edgewise e = seen_is ∙ ap (λ z. whole (neg_ℤ z)) e ∙ whole-nought
 
 -- ---- ends
 pub factor_small : (f : Face) → IsFace f → {n : ℤ} → n ≡ neg_ℤ f.az → MagnitudeBelow 37 n
@@ -83,12 +74,6 @@ module _ (s h a e : Fraction) (is : AreSizes s h a e) where
 
   n : (k : ℕ) → sign (units 20 k) ≢ below
   n k = nonnegative-units 20 k
-
-  none_narrow : (w : Fraction) {lo hi : ℤ} → sign w ≢ below → (lo ≡ pos 0) × (hi ≡ pos 0) → IsNarrow 20 w lo hi
-  none_narrow w {lo} {hi} some e = rw (e.0, e.1) (record {
-    width = order_from fractions (whole (pos 0) ∷ in_units 20 w ∷ []) ((unit, number 0, var 1) ∷ [])
-        (at_most (Order.nought-≼ fractions (Order.nonnegative-mul fractions some (Order.nonnegative_positive fractions (positive-unit 20)))) no_more) (var 0 :- var 0) (var 1) refl;
-  })
 
   pub no_volume_narrow : {lo hi : ℤ} → (lo ≡ pos 0) × (hi ≡ pos 0) → IsNarrow 20 (volume_part s a) lo hi
   no_volume_narrow = none_narrow (volume_part s a) (Order.nonnegative-add fractions

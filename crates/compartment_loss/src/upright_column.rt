@@ -17,7 +17,7 @@ ghost use Rattle.compartment_loss.specs.Upright.{IsUpright};
 
 use crate::UprightWet;
 use crate::upright::{Known, depth_of};
-use flux_moments::{PlaneBox, ShipLength};
+use flux_moments::{PlaneBox, ShipLength, are_dry};
 use hull_model::{Face, Node};
 use outward_interval::Span;
 use plane_clip::wet_depths;
@@ -56,7 +56,7 @@ pub(crate) fn column(face: &Face, planes: &PlaneBox, way: ShipLength, known: Kno
     }
 }
 
-/// The same of any face.
+/// The same of any face. A dry one has none.
 fn seen_column(face: &Face, planes: &PlaneBox, way: ShipLength, known: Known) -> KnownColumn
     requires face { IsFace face.now }
     requires between { AllByRecursion (λ n. (way.first ≤ℤ n.x) × (n.x ≤ℤ way.last)) face.now.p }
@@ -79,7 +79,14 @@ fn seen_column(face: &Face, planes: &PlaneBox, way: ShipLength, known: Known) ->
     let first = depth_of(at_p.near, p);
     let second = depth_of(at_q.near, q);
     let third = depth_of(at_r.near, r);
-    let means = wet_depths([first, second, third]);
+    let depths = [first, second, third];
+    if are_dry(&depths) {
+        return KnownColumn {
+            wet: nothing(),
+            known: at_r,
+        };
+    }
+    let means = wet_depths(depths);
     let moment = at_place(means.weighted[0], p)
         + at_place(means.weighted[1], q)
         + at_place(means.weighted[2], r);

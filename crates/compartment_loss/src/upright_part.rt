@@ -1,5 +1,5 @@
 // The columns between parts of faces and an upright plane.
-ghost use Rattle.std.specs.Prelude.{◌≡◌, ◌<◌, ◌≤◌, ◌+◌, ◌*◌, ◌^◌, ◌≤ℤ◌, ℕ, pos, unsigned_abs, List, length};
+ghost use Rattle.std.specs.Prelude.{◌≡◌, ◌↔◌, IsTrue, ◌<◌, ◌≤◌, ◌+◌, ◌*◌, ◌^◌, ◌≤ℤ◌, ℕ, pos, unsigned_abs, List, length};
 ghost use Rattle.std.specs.List.{AllByRecursion};
 ghost use Rattle.exact_algebra.proofs.Fraction.{Fraction, one, ◌⊕◌, ◌⊗◌, ◌≼◌};
 ghost use Rattle.exact_algebra.proofs.Span.{ContainsFraction};
@@ -25,7 +25,7 @@ ghost use Rattle.compartment_loss.specs.Upright.{IsUpright};
 use crate::UprightWet;
 use crate::upright::{Known, Place};
 use crate::upright_column::{KnownColumn, nothing};
-use flux_moments::{PlaneBox, ShipLength};
+use flux_moments::{PlaneBox, ShipLength, are_dry};
 use outward_interval::Span;
 use plane_clip::{Part, PartCorner, wet_depths};
 
@@ -55,7 +55,7 @@ pub(crate) fn part_column_sums(parts: &[Part], planes: &PlaneBox, way: ShipLengt
 }
 
 /// Twice the volume of the column between the wet part of a part of a face and an upright plane, and twice the integral
-/// of x over it.
+/// of x over it. A part that is dry, or seen edgewise from above, has none.
 fn part_column(part: &Part, planes: &PlaneBox, way: ShipLength, known: Known) -> KnownColumn
     requires within { IsPartWithin way.first way.last part.now }
     requires upright { IsUpright planes.now }
@@ -70,13 +70,26 @@ fn part_column(part: &Part, planes: &PlaneBox, way: ShipLength, known: Known) ->
     ensures volume_width { (b : BoxSize) (h : Fraction) (y z : ℕ) → HasSize planes.now b → one ≼ h → b.level ⊕ whole (pos (z + y)) ≼ h → IsPartExtent y z 3 part.now → IsNarrow 20 (part_volume h (spread b h) (part_area part.now)) result.wet.volume.lo result.wet.volume.hi }
     ensures mx_width { (b : BoxSize) (h : Fraction) (y z : ℕ) → HasSize planes.now b → one ≼ h → b.level ⊕ whole (pos (z + y)) ≼ h → IsPartExtent y z 3 part.now → IsNarrow 20 (part_length (whole way.last) h (spread b h) (part_area part.now)) result.wet.mx.lo result.wet.mx.hi }
 {
+    if is_edgewise(part) {
+        return KnownColumn {
+            wet: nothing(),
+            known,
+        };
+    }
     let at_a = known.with(planes, way, place_of(&part.a));
     let at_b = at_a.with(planes, way, place_of(&part.b));
     let at_c = at_b.with(planes, way, place_of(&part.c));
     let first = corner_depth(at_a.near, &part.a);
     let second = corner_depth(at_b.near, &part.b);
     let third = corner_depth(at_c.near, &part.c);
-    let means = wet_depths([first, second, third]);
+    let depths = [first, second, third];
+    if are_dry(&depths) {
+        return KnownColumn {
+            wet: nothing(),
+            known: at_c,
+        };
+    }
+    let means = wet_depths(depths);
     let factor = -part.az;
     let moment = scaled_place(means.weighted[0], factor, part.a.x)
         + scaled_place(means.weighted[1], factor, part.b.x)
@@ -88,6 +101,13 @@ fn part_column(part: &Part, planes: &PlaneBox, way: ShipLength, known: Known) ->
         },
         known: at_c,
     }
+}
+
+/// Whether a part is seen edgewise from above: its area from there is exactly 0.
+fn is_edgewise(part: &Part) -> bool
+    ensures { IsTrue result ↔ ((part.now.az.lo ≡ pos 0) × (part.now.az.hi ≡ pos 0)) }
+{
+    part.az.lo() == 0 && part.az.hi() == 0
 }
 
 fn place_of(corner: &PartCorner) -> i64

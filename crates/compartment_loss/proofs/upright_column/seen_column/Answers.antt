@@ -1,4 +1,4 @@
-use Rattle.std.proofs.Common.{refl, ◌+◌, ◌*◌, ◌^◌, [], ◌∷◌, get_or, subst, unsigned_abs, arith}
+use Rattle.std.proofs.Common.{refl, inl, ◌+◌, ◌*◌, ◌^◌, [], ◌∷◌, get_or, subst, unsigned_abs, arith}
 use Rattle.std.proofs.lemmas.Int.{to_z-of_z}
 use Rattle.std.specs.Int.{w128}
 use mir.Val.{SFits}
@@ -13,10 +13,12 @@ use Rattle.plane_clip.proofs.EachLists.{each_at}
 use Rattle.plane_clip.proofs.FaceSizes.{three_corners}
 use Rattle.flux_moments.specs.Sizes.{Reaches, spread, doubled_area}
 use Rattle.flux_moments.proofs.BoxWidths.{column_sizes, far_at_most}
+use Rattle.flux_moments.proofs.DryFaces.{dry_within, no_volume, no_integral}
 use Rattle.flux_moments.proofs.FaceColumns.{depths}
 use Rattle.flux_moments.proofs.FaceWidths.{width_narrow}
+use Rattle.flux_moments.proofs.PartWidths.{nonnegative_last}
 use Rattle.flux_moments.proofs.ProductEnds.{less, multiple_fits, multiple_ends, sum_ends}
-use Rattle.compartment_loss.proofs.UprightColumns.{volume_is, mx_is, factor_small, most_less, volume_narrow, length_narrow, seen_less}
+use Rattle.compartment_loss.proofs.UprightColumns.{volume_is, mx_is, factor_small, most_less, volume_narrow, length_narrow, no_volume_narrow, no_length_narrow, seen_less}
 use Rattle.compartment_loss.proofs.upright_column.seen_column.Goals as goal
 
 pub times_whole-requires : goal.times_whole-requires
@@ -127,3 +129,37 @@ returns-clause-mx_width c b h is some reached =
     (far_at_most begin last _ _ c.args.way.start.0 placed.2 refl)
     c.add.ensures c.add-moment.ensures (simp to_z-of_z at c.times_whole-2.ensures.width)
     (c.at_place.ensures.narrow _ n0) (c.at_place-2.ensures.narrow _ n1) (c.at_place-3.ensures.narrow _ n2)
+
+pub returns-then-are_dry-clause-volume : goal.returns-then-are_dry-clause-volume
+returns-then-are_dry-clause-volume c plane is =
+    let first = c.args.way.first in
+    let last = c.args.way.last in
+    let face = c.args.face.now in
+    let placed = three_corners (IsBetween first last) face c.requires.face c.requires.between in
+    no_volume plane first last face c.requires.face
+    (inl (dry_within (c.depth_of-first.result ∷ c.depth_of-second.result ∷ c.depth_of-third.result ∷ []) (depths plane first last face c.requires.face) (c.are_dry.ensures.0 c.if-are_dry.true)
+    (c.depth_of-first.ensures.contains c.args.planes.now c.args.way c.requires.upright c.with-at_p.ensures.near placed.0 plane is, c.depth_of-second.ensures.contains c.args.planes.now c.args.way c.requires.upright c.with-at_q.ensures.near placed.1 plane is, c.depth_of-third.ensures.contains c.args.planes.now c.args.way c.requires.upright c.with-at_r.ensures.near placed.2 plane is)))
+    c.nothing.ensures.volume
+
+pub returns-then-are_dry-clause-mx : goal.returns-then-are_dry-clause-mx
+returns-then-are_dry-clause-mx c plane is =
+    let first = c.args.way.first in
+    let last = c.args.way.last in
+    let face = c.args.face.now in
+    let placed = three_corners (IsBetween first last) face c.requires.face c.requires.between in
+    no_integral plane first last face c.requires.face (λ p. p.x)
+    (inl (dry_within (c.depth_of-first.result ∷ c.depth_of-second.result ∷ c.depth_of-third.result ∷ []) (depths plane first last face c.requires.face) (c.are_dry.ensures.0 c.if-are_dry.true)
+    (c.depth_of-first.ensures.contains c.args.planes.now c.args.way c.requires.upright c.with-at_p.ensures.near placed.0 plane is, c.depth_of-second.ensures.contains c.args.planes.now c.args.way c.requires.upright c.with-at_q.ensures.near placed.1 plane is, c.depth_of-third.ensures.contains c.args.planes.now c.args.way c.requires.upright c.with-at_r.ensures.near placed.2 plane is)))
+    c.nothing.ensures.mx
+
+pub returns-then-are_dry-clause-volume_width : goal.returns-then-are_dry-clause-volume_width
+returns-then-are_dry-clause-volume_width c b h is some reached =
+    let face = c.args.face.now in
+    no_volume_narrow (spread b h) h (doubled_area face) b.turn (column_sizes c.args.planes.now b is h some (unsigned_abs face.ay + unsigned_abs face.az)) c.nothing.ensures.volume
+
+pub returns-then-are_dry-clause-mx_width : goal.returns-then-are_dry-clause-mx_width
+returns-then-are_dry-clause-mx_width c b h is some reached =
+    let face = c.args.face.now in
+    let way = c.args.way in
+    no_length_narrow (spread b h) h (doubled_area face) b.turn (column_sizes c.args.planes.now b is h some (unsigned_abs face.ay + unsigned_abs face.az)) (whole way.last)
+    (nonnegative_last way.first way.last way.start.0 way.forwards) c.nothing.ensures.mx

@@ -1,4 +1,4 @@
-use Rattle.std.proofs.Common.{◌+◌, ◌^◌, [], ◌∷◌, get_or, subst, refl, arith}
+use Rattle.std.proofs.Common.{inl, inr, ◌+◌, ◌^◌, [], ◌∷◌, get_or, subst, refl, arith}
 use Rattle.std.proofs.lemmas.Int.{to_z-of_z}
 use Rattle.std.specs.Int.{w128}
 use mir.Val.{SFits}
@@ -14,9 +14,12 @@ use Rattle.plane_clip.proofs.EachLists.{each_at}
 use Rattle.flux_moments.specs.PartSizes.{part_area}
 use Rattle.flux_moments.specs.Sizes.{spread}
 use Rattle.flux_moments.proofs.BoxWidths.{far_at_most}
+use Rattle.flux_moments.proofs.DryFaces.{dry_within}
 use Rattle.flux_moments.proofs.FaceWidths.{width_narrow, reach_near}
+use Rattle.flux_moments.proofs.PartWidths.{nonnegative_area, nonnegative_last}
 use Rattle.flux_moments.proofs.ProductEnds.{products_fit, product_ends, less, at_most_sum}
 use Rattle.flux_moments.proofs.TriangleColumns.{depths_at}
+use Rattle.compartment_loss.proofs.UprightDry.{nonnegative_reach, no_part_volume, no_part_mx, no_part_volume-narrow, no_part_length-narrow}
 use Rattle.compartment_loss.proofs.UprightParts.{part_volume_is, part_mx_is, factor_narrow, factor_near, factor_less, along-fits, part_sizes, part_spread, part_volume_narrow, part_length_narrow}
 use Rattle.compartment_loss.proofs.upright_part.part_column.Goals as goal
 
@@ -127,3 +130,55 @@ returns-clause-mx_width c b h y z size some reached extent =
     (far_at_most c.args.way.first c.args.way.last _ _ c.args.way.start.0 c.requires.within.b refl)
     (far_at_most c.args.way.first c.args.way.last _ _ c.args.way.start.0 c.requires.within.c refl)
     c.add.ensures c.add-moment.ensures ((simp to_z-of_z at c.scaled_place.ensures.narrow) _ _ _ _ w0 m0 wide' near') ((simp to_z-of_z at c.scaled_place-2.ensures.narrow) _ _ _ _ w1 m1 wide' near') ((simp to_z-of_z at c.scaled_place-3.ensures.narrow) _ _ _ _ w2 m2 wide' near')
+
+pub returns-then-is_edgewise-clause-volume : goal.returns-then-is_edgewise-clause-volume
+returns-then-is_edgewise-clause-volume c plane share t is holds =
+    let first = c.args.way.first in
+    let last = c.args.way.last in
+    no_part_volume c.args.planes.now c.requires.upright plane is first last t share c.args.part.now holds
+    (inr (c.is_edgewise.ensures.0 c.if-is_edgewise.true))
+    c.nothing.ensures.volume
+
+pub returns-then-is_edgewise-clause-mx : goal.returns-then-is_edgewise-clause-mx
+returns-then-is_edgewise-clause-mx c plane share t is holds =
+    let first = c.args.way.first in
+    let last = c.args.way.last in
+    no_part_mx c.args.planes.now c.requires.upright plane is first last t share c.args.part.now holds
+    (inr (c.is_edgewise.ensures.0 c.if-is_edgewise.true))
+    c.nothing.ensures.mx
+
+pub returns-then-is_edgewise-clause-volume_width : goal.returns-then-is_edgewise-clause-volume_width
+returns-then-is_edgewise-clause-volume_width c b h y z size some reached extent =
+    no_part_volume-narrow (spread b h) h (part_area c.args.part.now) (part_spread c.args.planes.now b size h some) (nonnegative_reach h some) (nonnegative_area c.args.part.now) c.nothing.ensures.volume
+
+pub returns-then-is_edgewise-clause-mx_width : goal.returns-then-is_edgewise-clause-mx_width
+returns-then-is_edgewise-clause-mx_width c b h y z size some reached extent =
+    let way = c.args.way in
+    no_part_length-narrow (spread b h) h (part_area c.args.part.now) (part_spread c.args.planes.now b size h some) (nonnegative_reach h some) (nonnegative_area c.args.part.now) (whole way.last) (nonnegative_last way.first way.last way.start.0 way.forwards) c.nothing.ensures.mx
+
+pub returns-then-are_dry-clause-volume : goal.returns-then-are_dry-clause-volume
+returns-then-are_dry-clause-volume c plane share t is holds =
+    let first = c.args.way.first in
+    let last = c.args.way.last in
+    no_part_volume c.args.planes.now c.requires.upright plane is first last t share c.args.part.now holds
+    (inl (dry_within (c.corner_depth-first.result ∷ c.corner_depth-second.result ∷ c.corner_depth-third.result ∷ []) (depths_at plane first last t) (c.are_dry.ensures.0 c.if-are_dry.true)
+    (c.corner_depth-first.ensures.contains c.args.planes.now c.args.way c.requires.upright c.with-at_a.ensures.near c.requires.within.a plane t.a is holds.a, c.corner_depth-second.ensures.contains c.args.planes.now c.args.way c.requires.upright c.with-at_b.ensures.near c.requires.within.b plane t.b is holds.b, c.corner_depth-third.ensures.contains c.args.planes.now c.args.way c.requires.upright c.with-at_c.ensures.near c.requires.within.c plane t.c is holds.c)))
+    c.nothing-then-are_dry.ensures.volume
+
+pub returns-then-are_dry-clause-mx : goal.returns-then-are_dry-clause-mx
+returns-then-are_dry-clause-mx c plane share t is holds =
+    let first = c.args.way.first in
+    let last = c.args.way.last in
+    no_part_mx c.args.planes.now c.requires.upright plane is first last t share c.args.part.now holds
+    (inl (dry_within (c.corner_depth-first.result ∷ c.corner_depth-second.result ∷ c.corner_depth-third.result ∷ []) (depths_at plane first last t) (c.are_dry.ensures.0 c.if-are_dry.true)
+    (c.corner_depth-first.ensures.contains c.args.planes.now c.args.way c.requires.upright c.with-at_a.ensures.near c.requires.within.a plane t.a is holds.a, c.corner_depth-second.ensures.contains c.args.planes.now c.args.way c.requires.upright c.with-at_b.ensures.near c.requires.within.b plane t.b is holds.b, c.corner_depth-third.ensures.contains c.args.planes.now c.args.way c.requires.upright c.with-at_c.ensures.near c.requires.within.c plane t.c is holds.c)))
+    c.nothing-then-are_dry.ensures.mx
+
+pub returns-then-are_dry-clause-volume_width : goal.returns-then-are_dry-clause-volume_width
+returns-then-are_dry-clause-volume_width c b h y z size some reached extent =
+    no_part_volume-narrow (spread b h) h (part_area c.args.part.now) (part_spread c.args.planes.now b size h some) (nonnegative_reach h some) (nonnegative_area c.args.part.now) c.nothing-then-are_dry.ensures.volume
+
+pub returns-then-are_dry-clause-mx_width : goal.returns-then-are_dry-clause-mx_width
+returns-then-are_dry-clause-mx_width c b h y z size some reached extent =
+    let way = c.args.way in
+    no_part_length-narrow (spread b h) h (part_area c.args.part.now) (part_spread c.args.planes.now b size h some) (nonnegative_reach h some) (nonnegative_area c.args.part.now) (whole way.last) (nonnegative_last way.first way.last way.start.0 way.forwards) c.nothing-then-are_dry.ensures.mx
