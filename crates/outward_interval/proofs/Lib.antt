@@ -1,6 +1,7 @@
 pub mod Digits
 pub mod Quotients
 pub mod Signed
+pub mod Extremes
 pub mod Divisors
 pub mod Sides
 pub mod Widths

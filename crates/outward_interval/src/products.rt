@@ -10,7 +10,7 @@ ghost use Rattle.outward_interval.specs.Ends.{EndsBelow, ProductsBelow, AreEnds,
 
 use crate::Span;
 use crate::rounding::{ceiling_shift, floor_shift, product, shifted};
-use crate::steps::{greater, greatest, least, lesser};
+use crate::steps::{greater, lesser};
 use std::ops::Mul;
 
 /// The least span of all from low / 2^shift to high / 2^shift units.
@@ -27,6 +27,49 @@ pub(crate) fn rounded<const F: u32>(low: i128, high: i128, shift: u32) -> Span<F
     Span { lo: from, hi: to }
 }
 
+/// The least product of a number from a to b by one from c to d. Their signs tell of which ends it is, except where both
+/// ranges lie on both sides of 0.
+fn least_product(a: i128, b: i128, c: i128, d: i128) -> i128
+    requires first { a ≤ℤ b }
+    requires second { c ≤ℤ d }
+    requires products { ProductsBelow 126 a b c d }
+    ensures value { result ≡ least_product a b c d }
+    ensures size { MagnitudeBelow 126 result }
+{
+    if c >= 0 {
+        if a >= 0 { product(a, c) } else { product(a, d) }
+    } else if d <= 0 {
+        if b >= 0 { product(b, c) } else { product(b, d) }
+    } else if a >= 0 {
+        product(b, c)
+    } else if b <= 0 {
+        product(a, d)
+    } else {
+        lesser(product(a, d), product(b, c))
+    }
+}
+
+/// The greatest product of a number from a to b by one from c to d.
+fn greatest_product(a: i128, b: i128, c: i128, d: i128) -> i128
+    requires first { a ≤ℤ b }
+    requires second { c ≤ℤ d }
+    requires products { ProductsBelow 126 a b c d }
+    ensures value { result ≡ greatest_product a b c d }
+    ensures size { MagnitudeBelow 126 result }
+{
+    if c >= 0 {
+        if b >= 0 { product(b, d) } else { product(b, c) }
+    } else if d <= 0 {
+        if a >= 0 { product(a, d) } else { product(a, c) }
+    } else if a >= 0 {
+        product(b, d)
+    } else if b <= 0 {
+        product(a, c)
+    } else {
+        greater(product(a, c), product(b, d))
+    }
+}
+
 impl<const F: u32> Span<F> {
     /// The least span of all products with a number of `factor`: the four products of ends must be below 2^126 in magnitude.
     pub fn scaled_by<const G: u32>(self, factor: Span<G>) -> Span<F>
@@ -35,11 +78,9 @@ impl<const F: u32> Span<F> {
         ensures contains { (x y : Fraction) → ContainsFraction F self.entry.lo self.entry.hi x → ContainsFraction G factor.entry.lo factor.entry.hi y → ContainsFraction F result.lo result.hi (x ⊗ y) }
         ensures width { ((result.hi -ℤ result.lo) *ℤ pos (2 ^ G)) ≤ℤ ((pos (magnitude self.entry.lo self.entry.hi) *ℤ (factor.entry.hi -ℤ factor.entry.lo) +ℤ pos (magnitude factor.entry.lo factor.entry.hi) *ℤ (self.entry.hi -ℤ self.entry.lo)) +ℤ pos (2 * 2 ^ G)) }
     {
-        let p = product(self.lo, factor.lo);
-        let q = product(self.lo, factor.hi);
-        let r = product(self.hi, factor.lo);
-        let s = product(self.hi, factor.hi);
-        rounded(least(p, q, r, s), greatest(p, q, r, s), G)
+        let low = least_product(self.lo, self.hi, factor.lo, factor.hi);
+        let high = greatest_product(self.lo, self.hi, factor.lo, factor.hi);
+        rounded(low, high, G)
     }
 
     /// The span times a whole number, exactly: the ends must stay below 2^126 in magnitude.
