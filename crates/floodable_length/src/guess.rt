@@ -47,9 +47,13 @@ impl Guess {
 
     /// Learns from a look, which left a part of a gap.
     pub(crate) fn learn(&mut self, tried: Option<Tried>, gap: &Gap, left: &Gap) {
-        if let Some(tried) = tried {
-            self.before = Some(self.last);
-            self.last = tried;
+        match tried {
+            Some(tried) => {
+                self.before = Some(self.last);
+                self.last = tried;
+            }
+            // The line led to where the ship doesn't settle: it begins anew.
+            None => self.before = None,
         }
         if halvings(left) >= halvings(gap) {
             self.spare = self.spare.saturating_sub(1);
