@@ -2,6 +2,9 @@
 /// The farthest that a guess lies from the last look, in grid units.
 const MOST_STEPS: i128 = 1 << 30;
 
+/// How many looks follow the line alone.
+const PATIENCE: u32 = 6;
+
 /// A guess, mended by each look. Nothing rests on it but speed.
 #[derive(Clone, Copy, Debug)]
 pub(crate) struct Secant {
@@ -28,12 +31,20 @@ impl Secant {
         }
     }
 
-    /// Where to look next: the guess, and in long searches the middle at every second turn.
+    /// Where to look next: the guess, or the middle where a guess would have to lie beyond it.
     pub(crate) fn level(&self, low: i64, high: i64) -> i64 {
-        if self.turn < 6 || self.turn % 2 == 1 {
+        if self.room() <= high / 2 - low / 2 {
             self.level
         } else {
             low / 2 + high / 2
+        }
+    }
+
+    // The least way of a guess from the last look. In long searches a miss doubles it.
+    fn room(&self) -> i64 {
+        match self.turn.checked_sub(PATIENCE) {
+            Some(misses) => 1 << misses.min(30),
+            None => 0,
         }
     }
 
@@ -47,19 +58,20 @@ impl Secant {
                 _ => self.slope / 8,
             };
         }
-        self.level = beyond(level, over, self.slope.max(1));
         self.last = Some(Look { level, over });
         self.turn = self.turn.saturating_add(1);
+        self.level = beyond(level, over, self.slope, self.room());
     }
 }
 
-// Where a line of this slope is at 0: a grid unit away at least.
-fn beyond(level: i64, over: i128, slope: i128) -> i64 {
+// Where a line of this slope is at 0: a grid unit away at least, and no less than the room.
+fn beyond(level: i64, over: i128, slope: i128, room: i64) -> i64 {
     let slope = slope.max(1);
     if over >= 0 {
-        level.saturating_sub(steps(over.saturating_add(slope.saturating_sub(1)) / slope))
+        let way = steps(over.saturating_add(slope.saturating_sub(1)) / slope);
+        level.saturating_sub(way.max(room))
     } else {
-        level.saturating_add(steps(over.saturating_neg() / slope))
+        level.saturating_add(steps(over.saturating_neg() / slope).max(room))
     }
 }
 

@@ -2,6 +2,7 @@
 #![tactic(auto)]
 
 mod gap;
+mod guess;
 mod laws;
 mod lengths;
 mod margin_line;

@@ -8,6 +8,7 @@ ghost use Rattle.floodable_length.specs.LoadedShip.{LoadedShip, ship_of, IsShip}
 ghost use Rattle.floodable_length.specs.Reach.{IsSafe, IsReach, HasSmallLengths};
 
 use crate::gap::Gap;
+use crate::guess::{Guess, Tried};
 use crate::lengths::Lengths;
 use crate::products::product;
 use crate::ship::Ship;
@@ -20,7 +21,7 @@ use hull_polyhedron::Faces;
 use loading_sheet::Loading;
 use std::alloc::Global;
 
-/// The floodable length at a centre, found by halving between length 0 and the first length that reaches past an end.
+/// The floodable length at a centre, found by guessed lengths between length 0 and the first length that reaches past an end.
 ///
 /// `margin` is in mm below the top points of the stations, from 76 to 10000; `centre` in mm, from 0 to 524287; `step` in mm,
 /// even and from 2 to 100000; `permeability` in thousandths, up to 1000. The faces are the hull's.
@@ -80,14 +81,21 @@ fn longest(alloc: Global, ship: &Ship, lengths: &Lengths, intact: DraftBox) -> R
         next: lengths.past(),
         reason: Reason::EndOfShip,
     };
+    let mut guess = Guess::new(&gap, ship.clearance(&intact));
     while gap.is_wide() {
-        gap = halved(alloc, ship, lengths, gap)?;
+        gap = looked_into(alloc, ship, lengths, gap, &mut guess)?;
     }
     Ok(reach_of(&gap, lengths))
 }
 
-/// The gap on one side of its middle.
-fn halved(alloc: Global, ship: &Ship, lengths: &Lengths, gap: Gap) -> Result<Gap, Memory>
+/// The gap on one side of the length that is guessed.
+fn looked_into(
+    alloc: Global,
+    ship: &Ship,
+    lengths: &Lengths,
+    gap: Gap,
+    guess: &mut Guess,
+) -> Result<Gap, Memory>
     requires ship { IsShip (ship_of ship.now) }
     requires ends { IsAlong (ship_of ship.now) lengths.now }
     requires gap { IsGap (ship_of ship.now) lengths.now.centre lengths.now.permeability lengths.now.half_step gap }
@@ -95,34 +103,49 @@ fn halved(alloc: Global, ship: &Ship, lengths: &Lengths, gap: Gap) -> Result<Gap
     ensures gap { IfOk result (IsGap (ship_of ship.now) lengths.now.centre lengths.now.permeability lengths.now.half_step) }
     ensures narrower { IfOk result (λ g. (g.next -ℤ g.safe) <ℤ (gap.next -ℤ gap.safe)) }
 {
-    let middle = middle(gap.safe, gap.next);
-    let slab = lengths.slab(middle);
+    let steps = between(gap.safe, gap.next, guess.length(&gap));
+    let slab = lengths.slab(steps);
     let found = ship.weigh(alloc, &[slab])?;
-    Ok(narrowed(&gap, middle, found))
+    let left = narrowed(&gap, steps, found);
+    let tried = match ship.clearance_found(&found) {
+        Some(clearance) => Some(Tried {
+            length: steps,
+            clearance,
+        }),
+        None => None,
+    };
+    guess.learn(tried, &gap, &left);
+    Ok(left)
 }
 
 /// The gap below or above a number of steps, by what was found there.
-fn narrowed(gap: &Gap, middle: i64, found: Weighed) -> Gap
-    requires above { gap.now.safe <ℤ middle }
-    requires below { middle <ℤ gap.now.next }
-    ensures gap { (ship : LoadedShip) (centre half_step : ℤ) (permeability : ℕ) → IsGap ship centre permeability half_step gap.now → IsFound ship centre permeability (middle *ℤ twice half_step) found → IsGap ship centre permeability half_step result }
+fn narrowed(gap: &Gap, steps: i64, found: Weighed) -> Gap
+    requires above { gap.now.safe <ℤ steps }
+    requires below { steps <ℤ gap.now.next }
+    ensures gap { (ship : LoadedShip) (centre half_step : ℤ) (permeability : ℕ) → IsGap ship centre permeability half_step gap.now → IsFound ship centre permeability (steps *ℤ twice half_step) found → IsGap ship centre permeability half_step result }
     ensures narrower { (result.next -ℤ result.safe) <ℤ (gap.now.next -ℤ gap.now.safe) }
 {
     match found {
-        Weighed::Safe(at) => gap.above(middle, at),
-        Weighed::Unsafe(reason) => gap.below(middle, reason),
+        Weighed::Safe(at) => gap.above(steps, at),
+        Weighed::Unsafe(reason) => gap.below(steps, reason),
     }
 }
 
-/// A number of steps between two others.
-fn middle(safe: i64, next: i64) -> i64
+/// The number of steps nearest to `wish` between two others.
+fn between(safe: i64, next: i64, wish: i64) -> i64
     requires safe { pos 0 ≤ℤ safe }
     requires next { next ≤ℤ pos 524288 }
     requires wide { pos 1 <ℤ (next -ℤ safe) }
     ensures above { safe <ℤ result }
     ensures below { result <ℤ next }
 {
-    safe + (next - safe) / 2
+    if wish <= safe {
+        safe + 1
+    } else if wish >= next {
+        next - 1
+    } else {
+        wish
+    }
 }
 
 /// What a gap of one step says.

@@ -37,6 +37,19 @@ impl Ship<'_> {
         }
     }
 
+    /// How far the margin line is above the levels that were found, if any were.
+    pub(crate) fn clearance_found(&self, found: &Weighed) -> Option<i64>
+        requires ship { IsShip (ship_of self.now) }
+    {
+        match found {
+            Weighed::Safe(at)
+            | Weighed::Unsafe(Reason::Over { at, .. } | Reason::Touch { at, .. }) => {
+                Some(self.clearance(at))
+            }
+            Weighed::Unsafe(_) => None,
+        }
+    }
+
     /// The margin line against a box of levels.
     fn judge(&self, at: DraftBox) -> Weighed
         requires ship { IsShip (ship_of self.now) }
