@@ -123,7 +123,7 @@ IsShownLine _ _ = ⊥
 -- the criterion that decides, on which side where the report tells the sides apart, and what is shown
 pub record IsCauseOf (version criterion : ℕ) (side : Side) (shown : Shown) (n : ℕ) (word : Option SideLine) (words : ShownLine) : Type 0 where
   pub number : n ≡ criterion
-  pub where_so : word ≡ named_side version side
+  pub side_word : word ≡ named_side version side
   pub how : IsShownLine shown words
 
 abbrev pub IsCallOf : ℕ → Verdict → Call → Type 0
