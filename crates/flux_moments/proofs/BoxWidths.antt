@@ -15,7 +15,7 @@ use Rattle.outward_interval.specs.declared.span.Span.{Span}
 use Rattle.outward_interval.specs.Widths.{unit_of, units, IsNarrow, IsNear}
 use Rattle.outward_interval.proofs.Narrow.{nonnegative-unit_of, narrow-wider, near-wider, narrow-sum, near-sum, narrow-difference, near-difference, narrow-negative, near-negative, near-from, rounded, near-rounded, narrow-rescaled, near-rescaled}
 use Rattle.flux_moments.specs.Limits.{EndsAtMost}
-use Rattle.flux_moments.specs.Sizes.{BoxSize, HasSize, spread, IsCornerSize, AreSizes}
+use Rattle.flux_moments.specs.Sizes.{BoxSize, HasSize, spread, IsElevationSize, IsCornerSize, AreSizes}
 use Rattle.flux_moments.specs.declared.plane_box.PlaneBox.{PlaneBox}
 
 -- ---- levels at a place between the first station and the last
@@ -170,37 +170,11 @@ module _ (planes : PlaneBox) (b : BoxSize) (is : HasSize planes b) where
         (at_most reached (at_most (Order.nought-≼ fractions nonnegative_level) no_more)) (var 1) (var 2) refl
 
     -- the spans of the corner from those of the level, the height and the side, which are r wider than its place makes them
-    module _ (r s : Fraction) (wide : spread b h ⊕ r ≼ s ⊕ units 20 2) (level height depth side middle : Span 20)
-        (level_width : IsNarrow 20 (b.rise ⊕ units 20 2) level.lo level.hi) (level_reach : IsNear 20 (b.level ⊕ units 20 1) level.lo level.hi)
-        (height_width : IsNarrow 20 (b.turn ⊗ far ⊕ r) height.lo height.hi)
-        (height_reach : IsNear 20 (far ⊕ units 20 1) height.lo height.hi) where
+    module _ (r s : Fraction) (wide : spread b h ⊕ r ≼ s ⊕ units 20 2) where
       abbrev values : List Fraction
       values = b.rise ∷ b.turn ∷ b.level ∷ far ∷ h ∷ units 20 1 ∷ units 20 2 ∷ units 20 4 ∷ unit_of 20 ∷ r ∷ s ∷ []
 
-      wider : (b.rise ⊕ units 20 2) ⊕ (b.turn ⊗ far ⊕ r) ≼ s ⊕ units 20 4
-      wider = order_from fractions values ((var 1, var 3, var 4) ∷ (unit, (var 0 :+ var 1 :* var 4) :+ var 9, var 10 :+ var 6)
-          ∷ (unit :+ unit, var 6, number 2 :* var 8) ∷ (opposite unit, var 7, number 4 :* var 8) ∷ [])
-          (scaled nonnegative_turn near_enough (at_most wide (equal refl (equal refl no_more)))) ((var 0 :+ var 6) :+ (var 1 :* var 3 :+ var 9))
-          (var 10 :+ var 7) refl
-
-      pub depth_narrow : AreEnds (level.lo -ℤ height.hi) (level.hi -ℤ height.lo) depth.lo depth.hi → IsNarrow 20 (s ⊕ units 20 4) depth.lo depth.hi
-      depth_narrow e = narrow-wider wider (narrow-difference e level_width height_width)
-
-      pub middle_narrow : AreEnds (level.lo +ℤ height.lo) (level.hi +ℤ height.hi) middle.lo middle.hi → IsNarrow 20 (s ⊕ units 20 4) middle.lo middle.hi
-      middle_narrow e = narrow-wider wider (narrow-sum e level_width height_width)
-
-      reach : (b.level ⊕ units 20 1) ⊕ (far ⊕ units 20 1) ≼ h ⊕ units 20 2
-      reach = order_from fractions values ((unit, var 2 :+ var 3, var 4) ∷ (unit :+ unit, var 5, number 1 :* var 8)
-          ∷ (opposite unit, var 6, number 2 :* var 8) ∷ [])
-          (at_most reached (equal refl (equal refl no_more))) ((var 2 :+ var 5) :+ (var 3 :+ var 5)) (var 4 :+ var 6) refl
-
-      pub depth_near : AreEnds (level.lo -ℤ height.hi) (level.hi -ℤ height.lo) depth.lo depth.hi → IsNear 20 (h ⊕ units 20 2) depth.lo depth.hi
-      depth_near e = near-wider reach (near-difference e level_reach height_reach)
-
-      pub middle_near : AreEnds (level.lo +ℤ height.lo) (level.hi +ℤ height.hi) middle.lo middle.hi → IsNear 20 (h ⊕ units 20 2) middle.lo middle.hi
-      middle_near e = near-wider reach (near-sum e level_reach height_reach)
-
-      side_narrow : IsNarrow 20 (b.turn ⊗ far ⊕ r) side.lo side.hi → IsNarrow 20 (s ⊕ units 20 4) side.lo side.hi
+      side_narrow : {lo hi : ℤ} → IsNarrow 20 (b.turn ⊗ far ⊕ r) lo hi → IsNarrow 20 (s ⊕ units 20 4) lo hi
       side_narrow n = narrow-wider (order_from fractions values ((var 1, var 3, var 4) ∷ (unit, (var 0 :+ var 1 :* var 4) :+ var 9, var 10 :+ var 6)
           ∷ (unit, number 0, var 0) ∷ (unit, var 6, number 2 :* var 8)
           ∷ (opposite unit, var 7, number 4 :* var 8) ∷ (number 2, number 0, var 8) ∷ [])
@@ -208,23 +182,57 @@ module _ (planes : PlaneBox) (b : BoxSize) (is : HasSize planes b) where
           (equal refl (equal refl (scaled (Order.nonnegative-number fractions 2) (Order.nought-≼ fractions (nonnegative-unit_of 20)) no_more))))))
           (var 1 :* var 3 :+ var 9) (var 10 :+ var 7) refl) n
 
-      side_near : IsNear 20 (far ⊕ units 20 1) side.lo side.hi → IsNear 20 (h ⊕ units 20 2) side.lo side.hi
+      side_near : {lo hi : ℤ} → IsNear 20 (far ⊕ units 20 1) lo hi → IsNear 20 (h ⊕ units 20 2) lo hi
       side_near n = near-wider (order_from fractions values ((unit, var 3, var 4) ∷ (unit, var 5, number 1 :* var 8)
           ∷ (opposite unit, var 6, number 2 :* var 8) ∷ (unit, number 0, var 8) ∷ [])
           (at_most near_enough (equal refl (equal refl (at_most (Order.nought-≼ fractions (nonnegative-unit_of 20)) no_more)))) (var 3 :+ var 5)
           (var 4 :+ var 6) refl) n
 
-      pub corner_size : AreEnds (level.lo -ℤ height.hi) (level.hi -ℤ height.lo) depth.lo depth.hi → AreEnds (level.lo +ℤ height.lo)
-          (level.hi +ℤ height.hi) middle.lo middle.hi
-          → IsNarrow 20 (b.turn ⊗ far ⊕ r) side.lo side.hi → IsNear 20 (far ⊕ units 20 1) side.lo side.hi → IsCornerSize s h depth side middle
-      corner_size e g n m = record {
-        depth_width = depth_narrow e;
-        depth_reach = depth_near e;
+      pub with_side : {depth side middle : Span 20} → IsElevationSize s h depth middle → IsNarrow 20 (b.turn ⊗ far ⊕ r) side.lo side.hi → IsNear 20 (far ⊕ units 20 1) side.lo side.hi
+          → IsCornerSize s h depth side middle
+      with_side is n m = record {
+        depth_width = is.depth_width;
+        depth_reach = is.depth_reach;
         side_width = side_narrow n;
         side_reach = side_near m;
-        middle_width = middle_narrow g;
-        middle_reach = middle_near g;
+        middle_width = is.middle_width;
+        middle_reach = is.middle_reach;
       }
+
+      module _ (level height depth side middle : Span 20)
+          (level_width : IsNarrow 20 (b.rise ⊕ units 20 2) level.lo level.hi) (level_reach : IsNear 20 (b.level ⊕ units 20 1) level.lo level.hi)
+          (height_width : IsNarrow 20 (b.turn ⊗ far ⊕ r) height.lo height.hi)
+          (height_reach : IsNear 20 (far ⊕ units 20 1) height.lo height.hi) where
+        wider : (b.rise ⊕ units 20 2) ⊕ (b.turn ⊗ far ⊕ r) ≼ s ⊕ units 20 4
+        wider = order_from fractions values ((var 1, var 3, var 4) ∷ (unit, (var 0 :+ var 1 :* var 4) :+ var 9, var 10 :+ var 6)
+            ∷ (unit :+ unit, var 6, number 2 :* var 8) ∷ (opposite unit, var 7, number 4 :* var 8) ∷ [])
+            (scaled nonnegative_turn near_enough (at_most wide (equal refl (equal refl no_more)))) ((var 0 :+ var 6) :+ (var 1 :* var 3 :+ var 9))
+            (var 10 :+ var 7) refl
+
+        pub depth_narrow : AreEnds (level.lo -ℤ height.hi) (level.hi -ℤ height.lo) depth.lo depth.hi → IsNarrow 20 (s ⊕ units 20 4) depth.lo depth.hi
+        depth_narrow e = narrow-wider wider (narrow-difference e level_width height_width)
+
+        pub middle_narrow : AreEnds (level.lo +ℤ height.lo) (level.hi +ℤ height.hi) middle.lo middle.hi → IsNarrow 20 (s ⊕ units 20 4) middle.lo middle.hi
+        middle_narrow e = narrow-wider wider (narrow-sum e level_width height_width)
+
+        reach : (b.level ⊕ units 20 1) ⊕ (far ⊕ units 20 1) ≼ h ⊕ units 20 2
+        reach = order_from fractions values ((unit, var 2 :+ var 3, var 4) ∷ (unit :+ unit, var 5, number 1 :* var 8)
+            ∷ (opposite unit, var 6, number 2 :* var 8) ∷ [])
+            (at_most reached (equal refl (equal refl no_more))) ((var 2 :+ var 5) :+ (var 3 :+ var 5)) (var 4 :+ var 6) refl
+
+        pub depth_near : AreEnds (level.lo -ℤ height.hi) (level.hi -ℤ height.lo) depth.lo depth.hi → IsNear 20 (h ⊕ units 20 2) depth.lo depth.hi
+        depth_near e = near-wider reach (near-difference e level_reach height_reach)
+
+        pub middle_near : AreEnds (level.lo +ℤ height.lo) (level.hi +ℤ height.hi) middle.lo middle.hi → IsNear 20 (h ⊕ units 20 2) middle.lo middle.hi
+        middle_near e = near-wider reach (near-sum e level_reach height_reach)
+
+        pub elevation_size : AreEnds (level.lo -ℤ height.hi) (level.hi -ℤ height.lo) depth.lo depth.hi → AreEnds (level.lo +ℤ height.lo) (level.hi +ℤ height.hi) middle.lo middle.hi
+            → IsElevationSize s h depth middle
+        elevation_size e g = record { depth_width = depth_narrow e; depth_reach = depth_near e; middle_width = middle_narrow g; middle_reach = middle_near g }
+
+        pub corner_size : AreEnds (level.lo -ℤ height.hi) (level.hi -ℤ height.lo) depth.lo depth.hi → AreEnds (level.lo +ℤ height.lo) (level.hi +ℤ height.hi) middle.lo middle.hi
+            → IsNarrow 20 (b.turn ⊗ far ⊕ r) side.lo side.hi → IsNear 20 (far ⊕ units 20 1) side.lo side.hi → IsCornerSize s h depth side middle
+        corner_size e g n m = with_side (elevation_size e g) n m
 
 -- the sizes of a face's columns
 pub column_sizes : (planes : PlaneBox) (b : BoxSize) → HasSize planes b → (h : Fraction) → one ≼ h → (k : ℕ) → AreSizes (spread b h) h (whole (pos k)) b.turn

@@ -86,9 +86,12 @@ module _ (first last d1 d2 : ℤ) (order : d1 ≤ℤ d2) (f : Face) where
   rise : sign (share_rise first last d1 d2 f) ≢ below
   rise = kind_rises share_kind _ _ _ _ _ _ (deeper (triangle_of f).a) (deeper (triangle_of f).b) (deeper (triangle_of f).c)
 
+  pub nonnegative_seen : (g : Fraction) → sign g ≢ below → sign (seen_part_bound first last d1 d2 g f) ≢ below
+  nonnegative_seen g some = Order.nonnegative-add fractions (Order.nonnegative-mul fractions some
+      (Order.nonnegative-mul fractions (nonnegative-whole (unsigned_abs f.az)) (Order.nonnegative-add fractions rise (nonnegative-unit_of 32)))) (nonnegative-units 20 2)
+
   none_seen : (g : Fraction) → sign g ≢ below → {lo hi : ℤ} → IsNone lo hi → IsNarrow 20 (seen_part_bound first last d1 d2 g f) lo hi
-  none_seen g some = none_narrow (seen_part_bound first last d1 d2 g f) (Order.nonnegative-add fractions (Order.nonnegative-mul fractions some
-      (Order.nonnegative-mul fractions (nonnegative-whole (unsigned_abs f.az)) (Order.nonnegative-add fractions rise (nonnegative-unit_of 32)))) (nonnegative-units 20 2))
+  none_seen g some = none_narrow (seen_part_bound first last d1 d2 g f) (nonnegative_seen g some)
 
   pub no_lid_narrow : (x y : Fraction) → sign x ≢ below → (l : LidSums) → IsNoLid l → AreSeenWidths first last d1 d2 x y f l
   no_lid_narrow x y some l e = record {

@@ -3,6 +3,7 @@ use Rattle.std.proofs.Common.{pos, ℤ, ◌≡◌, ◌∙◌, refl, sym, ap, ap�
 use Rattle.exact_algebra.specs.Expression.{var, unit, ◌:*◌}
 use Rattle.exact_algebra.proofs.Fraction.{Fraction, one, ◌⊕◌, ◌⊗◌, negative, fraction_ring}
 use Rattle.exact_algebra.proofs.Ring.{ring}
+use Rattle.exact_algebra.proofs.Span.{ContainsFraction}
 use Rattle.exact_algebra.proofs.Whole.{whole}
 use Rattle.hull_model.specs.FaceParts.{area_y, area_z}
 use Rattle.hull_model.specs.declared.face.Face.{Face}
@@ -11,6 +12,7 @@ use Rattle.hull_model.specs.Waterplane.{Waterplane, Position}
 use Rattle.hull_model.specs.WetMean.{wet_depth}
 use Rattle.hull_polyhedron.specs.Columns.{middle}
 use Rattle.hull_polyhedron.proofs.WholeHull.{area_y-node, area_z-node}
+use Rattle.outward_interval.specs.declared.span.Span.{Span}
 use Rattle.plane_clip.specs.Enclosure.{CornerDepths, mean_at}
 use Rattle.flux_moments.specs.Columns.{face_at, column_volume, column_integral, moment_at}
 use Rattle.flux_moments.specs.Planes.{cosine, sine}
@@ -56,3 +58,7 @@ module _ (plane : Waterplane) (first last : ℤ) (f : Face) (is : IsFace f) wher
 -- the corners' places under other names
 pub renamed_places : (d : CornerDepths) (a : Fraction) {x y z x' y' z' : ℤ} → x ≡ x' → y ≡ y' → z ≡ z' → moment_at d a (whole x) (whole y) (whole z) ≡ moment_at d a (whole x') (whole y') (whole z')
 renamed_places d a {x} {y} {z} {x'} {y'} {z'} e f g = ap (λ w. moment_at d a (whole w) (whole y) (whole z)) e ∙ ap (λ w. moment_at d a (whole x') (whole w) (whole z)) f ∙ ap (λ w. moment_at d a (whole x') (whole y') (whole w)) g
+
+-- a corner's spans under other names
+pub renamed : {s t : Span 20} {x : Fraction} → s ≡ t → ContainsFraction 20 t.lo t.hi x → ContainsFraction 20 s.lo s.hi x
+renamed e h = rw e h

@@ -12,7 +12,7 @@ use Rattle.exact_algebra.proofs.Fraction.{Fraction, one, ◌⊕◌, ◌⊗◌, �
 use Rattle.exact_algebra.proofs.Order as Order
 use Rattle.exact_algebra.proofs.Order.{order_from, no_more, at_most, scaled, equal}
 use Rattle.exact_algebra.proofs.Ring.{ring, ring_from, given, none}
-use Rattle.exact_algebra.proofs.Span.{ContainsFraction}
+use Rattle.exact_algebra.proofs.Span.{in_units, ContainsFraction}
 use Rattle.exact_algebra.proofs.Whole.{whole, whole-add, whole-sub, whole-mul, whole-≼, positive-whole, nonnegative-whole}
 use Rattle.exact_algebra.proofs.WholeNumbers.{integers}
 use Rattle.hull_model.proofs.Magnitudes.{fits_64}
@@ -155,46 +155,56 @@ module _ (plane : Waterplane) (first last x : ℤ) (length : ℕ) (some : 0 < le
       above_nought (pos n) h = nonnegative-whole n
       above_nought (negsuc n) h = absurd (omega (arith, ints))
 
-  pub level_encloses : (a1 a2 f1 f2 lo hi : ℤ) → pos 0 ≤ℤ (last -ℤ x) → pos 0 ≤ℤ (x -ℤ first) → ContainsFraction 10 a1 a2 a → ContainsFraction 10 f1 f2 f
-      → AreLeastEnds (mixed a1 f1) (mixed a2 f2) length lo hi → ContainsFraction 20 lo hi (level_at plane first last X)
+  abbrev values : ℤ → ℤ → ℤ → List Fraction
+  values m n z = whole z ∷ Q ∷ a ∷ f ∷ P ∷ X ∷ Aft ∷ Fore ∷ inverse (Fore ⊖ Aft) ∷ whole m ∷ whole n ∷ []
+
+  abbrev part : Expression
+  part = (var 5 :- var 6) :* var 8
+
+  abbrev level : Expression
+  level = ((unit :- part) :* var 2 :+ part :* var 3) :* var 1
+
+  -- the level isn't below a number of units where those of both ends are not, and not above one
+  pub level_above : (a1 f1 lo : ℤ) → pos 0 ≤ℤ (last -ℤ x) → pos 0 ≤ℤ (x -ℤ first) → whole a1 ≼ in_units 10 a → whole f1 ≼ in_units 10 f
+      → (lo *ℤ pos length) ≤ℤ mixed a1 f1 → whole lo ≼ in_units 20 (level_at plane first last X)
   unfolding level_at
-  level_encloses a1 a2 f1 f2 lo hi before behind at_a at_f e = record {
-    from = Order.≼_cancel fractions positive-length (order_from fractions (values a1 f1 lo)
-        ((unit, var 0 :* (var 7 :- var 6), ((var 9 :* (var 7 :- var 5) :+ var 10 :* (var 5 :- var 6)) :* var 4))
-        ∷ ((var 7 :- var 5) :* var 4, var 9, var 2 :* var 4)
-        ∷ ((var 5 :- var 6) :* var 4, var 10, var 3 :* var 4)
-        ∷ (var 2 :* (var 7 :- var 5) :+ var 3 :* (var 5 :- var 6), var 4 :* var 4, var 1)
-        ∷ (var 1 :* (var 3 :- var 2) :* (var 5 :- var 6), unit, (var 7 :- var 6) :* var 8) ∷ [])
-        (at_most low (scaled (nonnegative_units last x before) at_a.from (scaled (nonnegative_units x first behind) at_f.from
-        (equal (sym squared) (equal (sym inverted) no_more)))))
-        (var 0 :* (var 7 :- var 6)) (level :* (var 7 :- var 6)) refl);
-    to = Order.≼_cancel fractions positive-length (order_from fractions (values a2 f2 hi)
-        ((unit, ((var 9 :* (var 7 :- var 5) :+ var 10 :* (var 5 :- var 6)) :* var 4), var 0 :* (var 7 :- var 6))
-        ∷ ((var 7 :- var 5) :* var 4, var 2 :* var 4, var 9)
-        ∷ ((var 5 :- var 6) :* var 4, var 3 :* var 4, var 10)
-        ∷ (var 2 :* (var 7 :- var 5) :+ var 3 :* (var 5 :- var 6), var 1, var 4 :* var 4)
-        ∷ (var 1 :* (var 3 :- var 2) :* (var 5 :- var 6), (var 7 :- var 6) :* var 8, unit) ∷ [])
-        (at_most high (scaled (nonnegative_units last x before) at_a.to (scaled (nonnegative_units x first behind) at_f.to
-        (equal squared (equal inverted no_more)))))
-        (level :* (var 7 :- var 6)) (var 0 :* (var 7 :- var 6)) refl);
-  }
+  level_above a1 f1 lo before behind at_a at_f e = Order.≼_cancel fractions positive-length (order_from fractions (values a1 f1 lo)
+      ((unit, var 0 :* (var 7 :- var 6), ((var 9 :* (var 7 :- var 5) :+ var 10 :* (var 5 :- var 6)) :* var 4))
+      ∷ ((var 7 :- var 5) :* var 4, var 9, var 2 :* var 4)
+      ∷ ((var 5 :- var 6) :* var 4, var 10, var 3 :* var 4)
+      ∷ (var 2 :* (var 7 :- var 5) :+ var 3 :* (var 5 :- var 6), var 4 :* var 4, var 1)
+      ∷ (var 1 :* (var 3 :- var 2) :* (var 5 :- var 6), unit, (var 7 :- var 6) :* var 8) ∷ [])
+      (at_most low (scaled (nonnegative_units last x before) at_a (scaled (nonnegative_units x first behind) at_f
+      (equal (sym squared) (equal (sym inverted) no_more)))))
+      (var 0 :* (var 7 :- var 6)) (level :* (var 7 :- var 6)) refl)
     where
-      values : ℤ → ℤ → ℤ → List Fraction
-      values m n z = whole z ∷ Q ∷ a ∷ f ∷ P ∷ X ∷ Aft ∷ Fore ∷ inverse (Fore ⊖ Aft) ∷ whole m ∷ whole n ∷ []
-
-      part : Expression
-      part = (var 5 :- var 6) :* var 8
-
-      level : Expression
-      level = ((unit :- part) :* var 2 :+ part :* var 3) :* var 1
-
       low : whole lo ⊗ (Fore ⊖ Aft) ≼ (whole a1 ⊗ (Fore ⊖ X) ⊕ whole f1 ⊗ (X ⊖ Aft)) ⊗ P
       low = Order.≼_trans fractions (Order.≼_same fractions (ap (λ y. whole lo ⊗ y) (sym whole-length) ∙ sym (whole-mul lo (pos length))))
-          (Order.≼_trans fractions (whole-≼ e.low.below) (Order.≼_same fractions (whole-mixed a1 f1)))
+          (Order.≼_trans fractions (whole-≼ e) (Order.≼_same fractions (whole-mixed a1 f1)))
 
+  pub level_below : (a2 f2 hi : ℤ) → pos 0 ≤ℤ (last -ℤ x) → pos 0 ≤ℤ (x -ℤ first) → in_units 10 a ≼ whole a2 → in_units 10 f ≼ whole f2
+      → mixed a2 f2 ≤ℤ (hi *ℤ pos length) → in_units 20 (level_at plane first last X) ≼ whole hi
+  unfolding level_at
+  level_below a2 f2 hi before behind at_a at_f e = Order.≼_cancel fractions positive-length (order_from fractions (values a2 f2 hi)
+      ((unit, ((var 9 :* (var 7 :- var 5) :+ var 10 :* (var 5 :- var 6)) :* var 4), var 0 :* (var 7 :- var 6))
+      ∷ ((var 7 :- var 5) :* var 4, var 2 :* var 4, var 9)
+      ∷ ((var 5 :- var 6) :* var 4, var 3 :* var 4, var 10)
+      ∷ (var 2 :* (var 7 :- var 5) :+ var 3 :* (var 5 :- var 6), var 1, var 4 :* var 4)
+      ∷ (var 1 :* (var 3 :- var 2) :* (var 5 :- var 6), (var 7 :- var 6) :* var 8, unit) ∷ [])
+      (at_most high (scaled (nonnegative_units last x before) at_a (scaled (nonnegative_units x first behind) at_f
+      (equal squared (equal inverted no_more)))))
+      (level :* (var 7 :- var 6)) (var 0 :* (var 7 :- var 6)) refl)
+    where
       high : (whole a2 ⊗ (Fore ⊖ X) ⊕ whole f2 ⊗ (X ⊖ Aft)) ⊗ P ≼ whole hi ⊗ (Fore ⊖ Aft)
       high = Order.≼_trans fractions (Order.≼_same fractions (sym (whole-mixed a2 f2)))
-          (Order.≼_trans fractions (whole-≼ e.high.above) (Order.≼_same fractions (whole-mul hi (pos length) ∙ ap (λ y. whole hi ⊗ y) whole-length)))
+          (Order.≼_trans fractions (whole-≼ e) (Order.≼_same fractions (whole-mul hi (pos length) ∙ ap (λ y. whole hi ⊗ y) whole-length)))
+
+  pub level_encloses : (a1 a2 f1 f2 lo hi : ℤ) → pos 0 ≤ℤ (last -ℤ x) → pos 0 ≤ℤ (x -ℤ first) → ContainsFraction 10 a1 a2 a → ContainsFraction 10 f1 f2 f
+      → AreLeastEnds (mixed a1 f1) (mixed a2 f2) length lo hi → ContainsFraction 20 lo hi (level_at plane first last X)
+  level_encloses a1 a2 f1 f2 lo hi before behind at_a at_f e = record {
+    from = level_above a1 f1 lo before behind at_a.from at_f.from e.low.below;
+    to = level_below a2 f2 hi before behind at_a.to at_f.to e.high.above;
+  }
 
 -- ---- levels that are the same at both ends
 pub floor_exact : (n z : ℤ) (d : ℕ) → 0 < d → n ≡ z *ℤ pos d → IsFloor n d z

@@ -13,6 +13,7 @@ pub mod Measured
 pub mod MeanWidths
 pub mod DepthEnds
 pub mod BoxWidths
+pub mod OneWord
 pub mod PlaceLevels
 pub mod PartWidths
 pub mod ColumnWidths
@@ -23,3 +24,13 @@ pub mod TotalWidths
 pub mod LevelEnds
 pub mod SeenWidths
 pub mod LidTotals
+pub mod NearDepths
+pub mod Waters
+pub mod StripLaws
+pub mod StripQuotients
+pub mod StripWidths
+pub mod StripSums
+pub mod StripLoops
+pub mod OpenWidths
+pub mod StripLids
+pub mod StripLidLoops

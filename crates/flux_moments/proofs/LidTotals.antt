@@ -1,6 +1,7 @@
 -- How wide the integrals over the lid are, from the sums over the faces.
-use Rattle.std.proofs.Common.{◌≡◌, ◌≢◌, ◌∙◌, refl, sym, ap, subst, List, [], ◌∷◌, length, ℕ, zero, suc, ◌*◌, ◌^◌, ℤ, pos, ◌+ℤ◌, ◌-ℤ◌, ◌*ℤ◌, ◌≤ℤ◌, ◌<ℤ◌, arith}
+use Rattle.std.proofs.Common.{◌≡◌, ◌≢◌, ◌∙◌, refl, sym, ap, [], ◌∷◌, length, ℕ, zero, suc, ◌*◌, ◌^◌, ◌<◌, ◌≤◌, ℤ, pos, unsigned_abs, ◌+ℤ◌, ◌-ℤ◌, ◌*ℤ◌, ◌≤ℤ◌, ◌<ℤ◌, arith}
 use Rattle.std.proofs.lemmas.Int.{ints}
+use Rattle.std.proofs.Math.Nat.{mul-le-mul}
 use Rattle.exact_algebra.specs.Expression.{var, unit, number, ◌:+◌, ◌:-◌, ◌:*◌, opposite}
 use Rattle.exact_algebra.specs.OrderedField.{below}
 use Rattle.exact_algebra.specs.Ring.{number_value}
@@ -17,14 +18,11 @@ use Rattle.hull_polyhedron.specs.declared.faces.Faces.{Faces}
 use Rattle.outward_interval.specs.Ends.{AreLeastEnds}
 use Rattle.outward_interval.specs.Widths.{unit_of, units, IsNarrow}
 use Rattle.outward_interval.proofs.Narrow.{whole-number, unit-in, nonnegative-unit_of, narrow-wider, narrow-over}
-use Rattle.flux_moments.specs.LidWidths.{AreLidWidths, seen_part_bound}
-use Rattle.flux_moments.specs.Sizes.{IsLevelBox}
+use Rattle.flux_moments.specs.LidWidths.{seen_part_bound}
+use Rattle.flux_moments.specs.Limits.{EndsAtMost}
 use Rattle.flux_moments.specs.Widths.{share_rise, area_above, lid_bound}
-use Rattle.flux_moments.specs.declared.lid_sums.LidSums.{LidSums}
-use Rattle.flux_moments.specs.declared.plane_box.PlaneBox.{PlaneBox}
 use Rattle.flux_moments.proofs.LevelEnds.{same_floor, same_ceiling}
 use Rattle.flux_moments.proofs.TotalWidths.{sum_affine_of}
-use Rattle.hull_polyhedron.specs.Between.{LieInside}
 
 -- 2^-18 is four units of 2^-20
 four : unit_of 18 ≡ units 20 4
@@ -34,17 +32,23 @@ four = Order.mul_cancel fractions (Order.not_nought fractions (positive-unit 20)
     (given (whole-mul (pos (2 ^ 18)) (pos 4)) (given (unit-in 18) (given (whole-number 4) (given (unit-in 20) none)))) (var 0 :* var 3)
     ((number 4 :* var 1) :* var 3) refl)
 
--- by the faces' own names
-pub lid_of : (faces : Faces) (planes : PlaneBox) (d1 d2 : ℤ) (list : List Face) (first last : ℤ) (sums : LidSums) → list ≡ faces.list → first ≡
-    faces.first_x → last ≡ faces.last_x → IsLevelBox planes d1 d2
-    → ((d1 d2 half_breadth height : ℤ) → IsLevelBox planes d1 d2 → LieInside half_breadth height list → AreLidWidths first last d1 d2 (whole last)
-    (whole half_breadth) list sums)
-    → AreLidWidths faces.first_x faces.last_x d1 d2 (whole faces.last_x) (whole faces.half_breadth) faces.list sums
-lid_of faces planes d1 d2 list first last sums e f g is widths = subst (λ (fs : List Face). AreLidWidths faces.first_x faces.last_x d1 d2
-    (whole faces.last_x) (whole faces.half_breadth) fs sums) e
-    (subst (λ (x : ℤ). AreLidWidths x faces.last_x d1 d2 (whole faces.last_x) (whole faces.half_breadth) list sums) f
-    (subst (λ (x : ℤ). AreLidWidths first x d1 d2 (whole x) (whole faces.half_breadth) list sums) g
-    (widths d1 d2 faces.half_breadth faces.high_z is (subst (λ (fs : List Face). LieInside faces.half_breadth faces.high_z fs) (sym e) faces.inside))))
+-- ---- the ends
+-- of a boundary, which has few faces
+pub lid-far : (most faces : ℕ) {lo hi : ℤ} → faces < 2 ^ 14 → EndsAtMost (faces * most) lo hi → EndsAtMost (16383 * most) lo hi
+lid-far most faces few e = record { low = omega (arith, e.low, mul-le-mul fewer same); high = omega (arith, e.high, mul-le-mul fewer same) }
+  where
+    fewer : faces ≤ 16383
+    fewer = omega (arith, few)
+
+    same : most ≤ most
+    same = omega arith
+
+-- of one without faces
+pub lid-none : (most faces : ℕ) {lo hi : ℤ} → EndsAtMost (faces * most) lo hi → faces ≡ 0 → (lo ≡ pos 0) × (hi ≡ pos 0)
+lid-none most faces {lo} {hi} e empty = (nothing lo e.low, nothing hi e.high)
+  where
+    nothing : (z : ℤ) → unsigned_abs z ≤ faces * most → z ≡ pos 0
+    nothing z h = omega (arith, ints, h, ap (λ n. n * most) empty)
 
 module _ (faces : Faces) (d1 d2 : ℤ) where
   abbrev seen : Face → Fraction

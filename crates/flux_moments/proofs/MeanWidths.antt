@@ -38,7 +38,7 @@ narrow_by F lo hi m h = record {
 pub near_by : (F : ℕ) (lo hi : ℤ) (k : ℕ) → unsigned_abs lo < suc k → unsigned_abs hi < suc k → IsNear F (in_unit F (pos k)) lo hi
 near_by F lo hi k low high = near-from lo hi k low high (Order.≼_same fractions (sym (in_unit-in F (pos k))))
 
-contains_end : (F : ℕ) (lo hi z : ℤ) → lo ≤ℤ z → z ≤ℤ hi → ContainsFraction F lo hi (in_unit F z)
+pub contains_end : (F : ℕ) (lo hi z : ℤ) → lo ≤ℤ z → z ≤ℤ hi → ContainsFraction F lo hi (in_unit F z)
 contains_end F lo hi z h k = record {
   from = Order.≼_trans fractions (whole-≼ h) (Order.≼_same fractions (sym (in_unit-in F z)));
   to = Order.≼_trans fractions (Order.≼_same fractions (in_unit-in F z)) (whole-≼ k);

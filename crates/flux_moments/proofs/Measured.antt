@@ -32,7 +32,7 @@ divided F n {lo} {hi} {x} h c = subst (λ y. ContainsFraction F lo hi y) same c
     same = ring_from fraction_ring (x ∷ whole (pos n) ∷ inverse (whole (pos n)) ∷ []) ((var 0, var 1 :* var 2, unit) ∷ [])
         (given (Bounds.mul-inverse_positive fractions (positive-whole n h)) none) ((var 0 :* var 1) :* var 2) (var 0) refl
 
-sum_at : (f : Triangle Position → Fraction) (faces : List Face) → sum_over (λ g. f (face_at g)) faces ≡ sum_over f (map triangle_at (map triangle_of faces))
+pub sum_at : (f : Triangle Position → Fraction) (faces : List Face) → sum_over (λ g. f (face_at g)) faces ≡ sum_over f (map triangle_at (map triangle_of faces))
 unfolding sum_over
 sum_at f [] = refl
 sum_at f (g ∷ faces) = ap (λ s. f (face_at g) ⊕ s) (sum_at f faces)
@@ -42,7 +42,7 @@ module _ (plane : Waterplane) (stations : List Station) (hull : IsHull stations)
   law = central_law plane stations hull (map triangle_of faces.list) are.boundary.balanced
 
   -- between the faces' own ends
-  placed : (Q : ℤ → ℤ → Fraction) → Q faces.first_x faces.last_x ≡ Q (first_x stations) (last_x stations)
+  pub placed : (Q : ℤ → ℤ → Fraction) → Q faces.first_x faces.last_x ≡ Q (first_x stations) (last_x stations)
   placed Q = ap (λ first. Q first faces.last_x) are.first_x ∙ ap (λ last. Q (first_x stations) last) are.last_x
 
   pub volume_measured : columns_volume plane faces.first_x faces.last_x faces.list ≡ submerged_volume plane stations
@@ -83,7 +83,7 @@ module _ (at : Fraction) (stations : List Station) (hull : IsHull stations) (fac
   lid_xx_seen = seen (λ p. p.x) (λ p. p.x) ∙ sym lid.xx
 
 -- the same number under other names
-renamed : (Q : ℤ → ℤ → List Face → Fraction) {first last first' last' : ℤ} {faces faces' : List Face} → first ≡ first' → last ≡ last' → faces ≡ faces'
+pub renamed : (Q : ℤ → ℤ → List Face → Fraction) {first last first' last' : ℤ} {faces faces' : List Face} → first ≡ first' → last ≡ last' → faces ≡ faces'
     → Q first last faces ≡ Q first' last' faces'
 renamed Q {first} {last} {first'} {last'} {faces} {faces'} e f g = ap (λ z. Q z last faces) e ∙ ap (λ z. Q first' z faces) f ∙ ap (λ l. Q first' last' l) g
 

@@ -1,14 +1,18 @@
 -- The levels of a box at a place between the stations.
-use Rattle.std.proofs.Common.{ℕ, ℤ, pos, ◌≡◌, ◌-ℤ◌, ◌*ℤ◌, ◌<◌, ◌≤ℤ◌, unsigned_abs}
-use Rattle.exact_algebra.proofs.Fraction.{Fraction, ◌⊕◌}
-use Rattle.exact_algebra.proofs.Span.{ContainsFraction}
+use Rattle.std.proofs.Common.{ℕ, ℤ, pos, ◌≡◌, sym, ◌∙◌, ap, ◌+ℤ◌, ◌-ℤ◌, ◌*ℤ◌, ◌<◌, ◌<ℤ◌, ◌≤ℤ◌, unsigned_abs, arith}
+use Rattle.std.proofs.lemmas.Int.{ints}
+use Rattle.exact_algebra.proofs.Fraction.{Fraction, ◌⊕◌, fractions, ◌≼◌}
+use Rattle.exact_algebra.proofs.Order as Order
+use Rattle.exact_algebra.proofs.Span.{ContainsFraction, in_units}
 use Rattle.exact_algebra.proofs.Whole.{whole}
 use Rattle.hull_model.specs.Waterplane.{Waterplane, level_at}
 use Rattle.outward_interval.specs.Widths.{units, IsNarrow, IsNear}
 use Rattle.flux_moments.specs.Planes.{IsIn, AreLevelEnds}
 use Rattle.flux_moments.specs.declared.box_levels.ShipLength.{ShipLength}
 use Rattle.flux_moments.specs.declared.plane_box.PlaneBox.{PlaneBox}
-use Rattle.flux_moments.proofs.Levels.{before_within, behind_within, length_some, length_same, level_encloses, same_least}
+use Rattle.flux_moments.proofs.Levels.{before_within, behind_within, length_some, length_same, level_encloses, level_above, level_below, same_least}
+use Rattle.plane_clip.specs.Enclosure.{in_unit}
+use Rattle.flux_moments.proofs.MeanWidths.{in_unit-in}
 use Rattle.flux_moments.proofs.BoxWidths.{level-narrow, level-near}
 
 module _ (planes : PlaneBox) (way : ShipLength) (x lo hi : ℤ) (from : way.first ≤ℤ x) (to : x ≤ℤ way.last) where
@@ -42,3 +46,18 @@ module _ (planes : PlaneBox) (way : ShipLength) (x lo hi : ℤ) (from : way.firs
 
     pub level_near : (l : Fraction) → IsNear 10 l planes.a1 planes.a2 → IsNear 10 l planes.f1 planes.f2 → IsNear 20 (l ⊕ units 20 1) lo hi
     level_near = level-near way.first way.last x length some same before behind planes.a1 planes.a2 planes.f1 planes.f2 lo hi ends
+
+    -- at the least levels of the box the level is less than a unit above the lower end, and so at the greatest
+    pub least_level : (plane : Waterplane) → plane.a ≡ in_unit 10 planes.a1 → plane.f ≡ in_unit 10 planes.f1 → in_units 20 (level_at plane way.first way.last (whole x)) ≼ whole (lo +ℤ pos 1)
+    least_level plane e f = level_below plane way.first way.last x length some same planes.a1 planes.f1 (lo +ℤ pos 1) before behind
+        (Order.≼_same fractions (ap (in_units 10) e ∙ in_unit-in 10 planes.a1)) (Order.≼_same fractions (ap (in_units 10) f ∙ in_unit-in 10 planes.f1)) (weak ends.low.next)
+      where
+        weak : {m n : ℤ} → m <ℤ n → m ≤ℤ n
+        weak {m} {n} h = omega (arith, ints, h)
+
+    pub greatest_level : (plane : Waterplane) → plane.a ≡ in_unit 10 planes.a2 → plane.f ≡ in_unit 10 planes.f2 → whole (hi -ℤ pos 1) ≼ in_units 20 (level_at plane way.first way.last (whole x))
+    greatest_level plane e f = level_above plane way.first way.last x length some same planes.a2 planes.f2 (hi -ℤ pos 1) before behind
+        (Order.≼_same fractions (sym (ap (in_units 10) e ∙ in_unit-in 10 planes.a2))) (Order.≼_same fractions (sym (ap (in_units 10) f ∙ in_unit-in 10 planes.f2))) (weak ends.high.before)
+      where
+        weak : {m n : ℤ} → m <ℤ n → m ≤ℤ n
+        weak {m} {n} h = omega (arith, ints, h)

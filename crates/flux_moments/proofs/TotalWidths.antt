@@ -1,5 +1,5 @@
 -- How wide the integrals below the planes of a box are: the sizes of the box and of the faces, and the sums over the faces.
-use Rattle.std.proofs.Common.{◌≡◌, ◌≢◌, ◌∙◌, refl, sym, ap, subst, List, [], ◌∷◌, length, ℕ, suc, ◌+◌, ◌*◌, ◌^◌, ◌<◌, max, ℤ, pos, neg_ℤ, unsigned_abs, ◌+ℤ◌, ◌-ℤ◌, ◌*ℤ◌, ◌≤ℤ◌, ◌<ℤ◌, arith}
+use Rattle.std.proofs.Common.{◌≡◌, ◌≢◌, ◌∙◌, refl, sym, ap, List, [], ◌∷◌, length, ℕ, suc, ◌+◌, ◌*◌, ◌^◌, ◌<◌, max, ℤ, pos, neg_ℤ, unsigned_abs, ◌+ℤ◌, ◌-ℤ◌, ◌*ℤ◌, ◌≤ℤ◌, ◌<ℤ◌, arith}
 use Rattle.std.proofs.lemmas.Int.{ints, clamps}
 use Rattle.std.specs.Int.{int_max}
 use Rattle.std.specs.List.{AllByRecursion}
@@ -19,15 +19,13 @@ use Rattle.hull_model.specs.Faces.{IsFace}
 use Rattle.hull_model.specs.Fractions.{sum_over}
 use Rattle.hull_model.specs.Nodes.{IsNode}
 use Rattle.hull_polyhedron.specs.declared.faces.Faces.{Faces}
-use Rattle.hull_polyhedron.specs.Between.{IsInside}
+use Rattle.hull_polyhedron.specs.Between.{IsInside, LieInside}
 use Rattle.outward_interval.specs.Widths.{unit_of, units, IsNarrow}
 use Rattle.outward_interval.proofs.Narrow.{whole-number, unit-in, nonnegative-unit_of, narrow-wider, narrow-over}
 use Rattle.plane_clip.specs.Enclosure.{in_unit}
-use Rattle.flux_moments.specs.ColumnSizes.{AreSumWidths}
 use Rattle.flux_moments.specs.Sizes.{BoxSize, HasSize, Reaches, AreReached, distance, spread, doubled_area, volume_part, length_part, height_part}
 use Rattle.flux_moments.specs.Widths.{half_areas, size_of, reach_of, volume_bound}
 use Rattle.flux_moments.specs.declared.plane_box.PlaneBox.{PlaneBox}
-use Rattle.flux_moments.specs.declared.wet.Wet.{Wet}
 use Rattle.flux_moments.proofs.BoxWidths.{nonnegative_rise, nonnegative_turn, nonnegative_level, nonnegative_width}
 use Rattle.flux_moments.proofs.Heights.{cosine_range, sine_range}
 use Rattle.flux_moments.proofs.MeanWidths.{in_unit-in, narrow_by, near_by}
@@ -107,30 +105,20 @@ some_reach faces b = order_from fractions ((size_of b).level ∷ whole (faces.hi
     above : (z y : ℤ) → pos 0 ≤ℤ z → pos 1 ≤ℤ y → pos 1 ≤ℤ (z +ℤ y)
     above z y h k = omega (arith, ints)
 
-pub are_reached : (faces : Faces) (b : PlaneBox) → AllByRecursion IsFace faces.list → AreReached b faces.list (size_of b) (reach_of faces b)
-are_reached faces b limits = record {
+pub strip_reached : (faces : Faces) (b : PlaneBox) (nodes : List Node) → AllByRecursion IsNode nodes → AllByRecursion (IsInside faces.half_breadth faces.high_z) nodes → AllByRecursion (Reaches (size_of b) (reach_of faces b)) nodes
+strip_reached faces b nodes limits inside = nodes_reached faces.half_breadth faces.high_z (size_of b).level (reach_of faces b) (Order.≼_refl fractions (reach_of faces b)) (size_of b)
+    (Order.≼_refl fractions (size_of b).level) nodes limits inside
+
+pub list_reached : (faces : Faces) (b : PlaneBox) (list : List Face) → AllByRecursion IsFace list → LieInside faces.half_breadth faces.high_z list → AreReached b list (size_of b) (reach_of faces b)
+list_reached faces b list limits inside = record {
   size = size_is b;
   some = some_reach faces b;
   reached = faces_reached faces.half_breadth faces.high_z (size_of b).level (reach_of faces b) (Order.≼_refl fractions (reach_of faces b)) (size_of b)
-      (Order.≼_refl fractions (size_of b).level) faces.list limits faces.inside;
+      (Order.≼_refl fractions (size_of b).level) list limits inside;
 }
 
--- what the sums over the columns ensure, by the faces' own names
-pub sums_of : (faces : Faces) (b : PlaneBox) → AllByRecursion IsFace faces.list → (list : List Face) (last : ℤ) (sums : Wet) → list ≡ faces.list
-    → last ≡ faces.last_x
-    → ((size : BoxSize) (h : Fraction) → AreReached b list size h → AreSumWidths (whole last) h (spread size h) list sums)
-    → AreSumWidths (whole faces.last_x) (reach_of faces b) (spread (size_of b) (reach_of faces b)) faces.list sums
-sums_of faces b limits list last sums e f widths = subst (λ (fs : List Face). AreSumWidths (whole faces.last_x) (reach_of faces b)
-    (spread (size_of b) (reach_of faces b)) fs sums) e
-    (subst (λ (x : ℤ). AreSumWidths (whole x) (reach_of faces b) (spread (size_of b) (reach_of faces b)) list sums) f
-    (widths (size_of b) (reach_of faces b) (subst (λ (fs : List Face). AreReached b fs (size_of b) (reach_of faces b)) (sym e) (are_reached faces b limits))))
-
-pub volume_of : (faces : Faces) (b : PlaneBox) → AllByRecursion IsFace faces.list → (list : List Face) (lo hi : ℤ) → list ≡ faces.list
-    → ((size : BoxSize) (h : Fraction) → AreReached b list size h → IsNarrow 20 (sum_over (λ f. volume_part (spread size h) (doubled_area f)) list) lo hi)
-    → IsNarrow 20 (sum_over (λ f. volume_part (spread (size_of b) (reach_of faces b)) (doubled_area f)) faces.list) lo hi
-volume_of faces b limits list lo hi e narrow = subst (λ (fs : List Face). IsNarrow 20
-    (sum_over (λ f. volume_part (spread (size_of b) (reach_of faces b)) (doubled_area f)) fs) lo hi) e
-    (narrow (size_of b) (reach_of faces b) (subst (λ (fs : List Face). AreReached b fs (size_of b) (reach_of faces b)) (sym e) (are_reached faces b limits)))
+pub are_reached : (faces : Faces) (b : PlaneBox) → AllByRecursion IsFace faces.list → AreReached b faces.list (size_of b) (reach_of faces b)
+are_reached faces b limits = list_reached faces b faces.list limits faces.inside
 
 -- ---- the sums over the faces
 pub sum_affine_of : (faces : List Face) (area f : Face → Fraction) (c k : Fraction) → ((g : Face) → f g ≡ area g ⊗ c ⊕ k) → sum_over f faces ≡
@@ -210,11 +198,11 @@ module _ (faces : Faces) (b : PlaneBox) (few : length faces.list < 2 ^ 14) where
       much : (n : ℕ) → n < 2 ^ 14 → pos n ≤ℤ pos (2 ^ 17)
       much n h = omega (arith, ints)
 
-  some_area : one ≼ K
-  some_area = Order.≼_trans fractions (Order.≼_same fractions (sym whole-one)) (whole-≼ one_at_most)
+  some_area : number_value fraction_ring.operations 64 ≼ K
+  some_area = Order.≼_trans fractions (Order.≼_same fractions (sym (whole-number 64))) (whole-≼ some_at_most)
     where
-      one_at_most : pos 1 ≤ℤ pos (2 ^ 17)
-      one_at_most = omega (arith, ints)
+      some_at_most : pos 64 ≤ℤ pos (2 ^ 17)
+      some_at_most = omega (arith, ints)
 
   half : whole (pos 2) ⊗ inverse (whole (pos 2)) ≡ one
   half = Bounds.mul-inverse_positive fractions (positive-whole 2 (omega arith))
@@ -223,7 +211,8 @@ module _ (faces : Faces) (b : PlaneBox) (few : length faces.list < 2 ^ 14) where
   abbrev total : Fraction → Fraction
   total g = g ⊗ (S ⊗ (((s ⊕ s) ⊕ (s ⊕ s)) ⊕ units 20 64) ⊕ N ⊗ (s ⊕ units 20 16))
 
-  enough : (g : Fraction) → one ≼ g → total g ≼ (g ⊗ W ⊖ units 20 2) ⊗ whole (pos 2)
+  -- with the three units of each strip
+  enough : (g : Fraction) → one ≼ g → total g ⊕ units 20 189 ≼ (g ⊗ W ⊖ units 20 2) ⊗ whole (pos 2)
   unfolding volume_bound
   enough g some = order_from fractions (g ∷ S ∷ N ∷ s ∷ unit_of 20 ∷ K ∷ half_areas faces.list ∷ inverse (whole (pos 2)) ∷ whole (pos 2) ∷ whole
       (pos 8) ∷ unit_of 16 ∷ [])
@@ -233,19 +222,20 @@ module _ (faces : Faces) (b : PlaneBox) (few : length faces.list < 2 ^ 14) where
       ∷ (opposite (number 8 :* var 0 :* var 5 :* (var 3 :+ var 10) :- number 2 :* var 4), var 8, number 2)
       ∷ (opposite (number 8 :* var 0 :* var 1 :+ number 16 :* var 0 :* var 5), var 10, number 16 :* var 4)
       ∷ (var 0 :* (var 3 :+ number 16 :* var 4), var 2, var 5)
-      ∷ (number 4 :* var 4 :* var 5, unit, var 0) ∷ (number 4 :* var 4, unit, var 5)
+      ∷ (number 4 :* var 4 :* var 5, unit, var 0) ∷ (number 4 :* var 4, number 64, var 5) ∷ (number 63, number 0, var 4)
       ∷ (number 4 :* var 0 :* var 1 :+ number 15 :* var 0 :* var 5, number 0, var 3)
       ∷ (number 64 :* var 0 :* var 1 :+ number 236 :* var 0 :* var 5, number 0, var 4) ∷ [])
       (equal (whole-number 8) (equal (half_sum faces.list) (equal half (equal (whole-number 2) (equal sixteen
       (scaled (Order.nonnegative-mul fractions far (Order.nonnegative-add fractions spread_is (Order.nonnegative-mul fractions (n 16) u))) fewer
       (scaled (Order.nonnegative-mul fractions (Order.nonnegative-mul fractions (n 4) u) area) some (scaled (Order.nonnegative-mul fractions (n 4) u) some_area
+      (scaled (n 63) (Order.nought-≼ fractions u)
       (scaled (Order.nonnegative-add fractions (Order.nonnegative-mul fractions (Order.nonnegative-mul fractions (n 4) far)
       (nonnegative_areas faces.list)) (Order.nonnegative-mul fractions (Order.nonnegative-mul fractions (n 15) far) area))
       (Order.nought-≼ fractions spread_is)
       (scaled (Order.nonnegative-add fractions (Order.nonnegative-mul fractions (Order.nonnegative-mul fractions (n 64) far)
       (nonnegative_areas faces.list)) (Order.nonnegative-mul fractions (Order.nonnegative-mul fractions (n 236) far) area))
-      (Order.nought-≼ fractions u) no_more))))))))))
-      (var 0 :* (var 1 :* (((var 3 :+ var 3) :+ (var 3 :+ var 3)) :+ number 64 :* var 4) :+ var 2 :* (var 3 :+ number 16 :* var 4)))
+      (Order.nought-≼ fractions u) no_more)))))))))))
+      (var 0 :* (var 1 :* (((var 3 :+ var 3) :+ (var 3 :+ var 3)) :+ number 64 :* var 4) :+ var 2 :* (var 3 :+ number 16 :* var 4)) :+ number 189 :* var 4)
       ((var 0 :* ((var 9 :* (var 6 :+ var 5)) :* (var 3 :+ var 10)) :- number 2 :* var 4) :* var 8) refl
     where
       far : sign g ≢ below
@@ -260,21 +250,24 @@ module _ (faces : Faces) (b : PlaneBox) (few : length faces.list < 2 ^ 14) where
       n : (k : ℕ) → sign (number_value fraction_ring.operations k) ≢ below
       n k = Order.nonnegative-number fractions k
 
+  with_units : (w x y : Fraction) → w ≼ x → x ⊕ units 20 189 ≼ y → w ⊕ units 20 189 ≼ y
+  with_units w x y h k = Order.≼_trans fractions (Order.≼-add fractions h (Order.≼_refl fractions (units 20 189))) k
+
   -- the quotient by two, and by four
-  over_two : (g w : Fraction) {low high lo hi : ℤ} → one ≼ g → w ≼ total g → IsNarrow 20 w low high → ((hi -ℤ lo) *ℤ pos 2) ≤ℤ
+  over_two : (g w : Fraction) {low high lo hi : ℤ} → one ≼ g → w ≼ total g → IsNarrow 20 (w ⊕ units 20 189) low high → ((hi -ℤ lo) *ℤ pos 2) ≤ℤ
       ((high -ℤ low) +ℤ pos (2 * 2)) → IsNarrow 20 (g ⊗ W) lo hi
   over_two g w some less narrow quotient = narrow-wider (Order.≼_same fractions (ring fraction_ring (g ∷ W ∷ unit_of 20 ∷ [])
       ((var 0 :* var 1 :- number 2 :* var 2) :+ number 2 :* var 2) (var 0 :* var 1) refl))
-      (narrow-over (g ⊗ W ⊖ units 20 2) 2 (omega arith) quotient narrow (Order.≼_trans fractions less (enough g some)))
+      (narrow-over (g ⊗ W ⊖ units 20 2) 2 (omega arith) quotient narrow (with_units w (total g) _ less (enough g some)))
 
-  over_four : (g w : Fraction) {low high lo hi : ℤ} → one ≼ g → w ≼ total g → low ≤ℤ high → IsNarrow 20 w low high → ((hi -ℤ lo) *ℤ pos 4) ≤ℤ
+  over_four : (g w : Fraction) {low high lo hi : ℤ} → one ≼ g → w ≼ total g → low ≤ℤ high → IsNarrow 20 (w ⊕ units 20 189) low high → ((hi -ℤ lo) *ℤ pos 4) ≤ℤ
       ((high -ℤ low) +ℤ pos (2 * 4)) → IsNarrow 20 (g ⊗ W) lo hi
   over_four g w {low} {high} some less order narrow quotient = narrow-wider (Order.≼_same fractions
       (ring fraction_ring (g ∷ W ∷ unit_of 20 ∷ []) ((var 0 :* var 1 :- number 2 :* var 2) :+ number 2 :* var 2) (var 0 :* var 1) refl))
-      (narrow-over (g ⊗ W ⊖ units 20 2) 4 (omega arith) quotient narrow (order_from fractions (w ∷ (g ⊗ W ⊖ units 20 2) ∷ whole (pos 2) ∷ whole (pos 4) ∷ [])
+      (narrow-over (g ⊗ W ⊖ units 20 2) 4 (omega arith) quotient narrow (order_from fractions ((w ⊕ units 20 189) ∷ (g ⊗ W ⊖ units 20 2) ∷ whole (pos 2) ∷ whole (pos 4) ∷ [])
       ((number 2, var 0, var 1 :* var 2) ∷ (unit, number 0, var 0) ∷ (opposite (var 1), var 3, var 2 :* var 2)
       ∷ (opposite (var 1 :* var 2), var 2, number 2) ∷ [])
-      (scaled (Order.nonnegative-number fractions 2) (Order.≼_trans fractions less (enough g some))
+      (scaled (Order.nonnegative-number fractions 2) (with_units w (total g) _ less (enough g some))
       (at_most (Order.nought-≼ fractions (nonnegative_width low high order narrow))
       (equal (whole-mul (pos 2) (pos 2)) (equal (whole-number 2) no_more)))) (var 0) (var 1 :* var 3) refl))
 
@@ -318,7 +311,7 @@ module _ (faces : Faces) (b : PlaneBox) (few : length faces.list < 2 ^ 14) where
       (Order.nonnegative-add fractions spread_is (nonnegative-unit_of 16))
 
   -- half of it is enough for the volume
-  half_enough : S ⊗ ((s ⊕ s) ⊕ units 20 24) ⊕ N ⊗ units 20 2 ≼ (W ⊗ inverse (whole (pos 2)) ⊖ units 20 2) ⊗ whole (pos 2)
+  half_enough : (S ⊗ ((s ⊕ s) ⊕ units 20 24) ⊕ N ⊗ units 20 2) ⊕ units 20 189 ≼ (W ⊗ inverse (whole (pos 2)) ⊖ units 20 2) ⊗ whole (pos 2)
   unfolding volume_bound
   half_enough = order_from fractions (S ∷ N ∷ s ∷ unit_of 20 ∷ K ∷ half_areas faces.list ∷ inverse (whole (pos 2)) ∷ whole (pos 2) ∷ whole (pos 8) ∷ unit_of 16 ∷ [])
       ((opposite ((var 5 :+ var 4) :* (var 2 :+ var 9) :* var 6 :* var 7), var 8, number 8)
@@ -326,13 +319,14 @@ module _ (faces : Faces) (b : PlaneBox) (few : length faces.list < 2 ^ 14) where
       ∷ (opposite (number 8 :* (var 2 :+ var 9)), var 5, var 0 :* var 6)
       ∷ (number 4 :* var 0 :* (var 2 :+ var 9) :* var 6 :+ number 2 :* var 3, var 7, number 2)
       ∷ (opposite (number 4 :* var 0 :+ number 8 :* var 4), var 9, number 16 :* var 3)
-      ∷ (number 2 :* var 3, var 1, var 4) ∷ (number 4 :* var 3, unit, var 4)
+      ∷ (number 2 :* var 3, var 1, var 4) ∷ (number 4 :* var 3, number 64, var 4) ∷ (number 63, number 0, var 3)
       ∷ (number 2 :* var 0 :+ number 8 :* var 4, number 0, var 2) ∷ (number 40 :* var 0 :+ number 122 :* var 4, number 0, var 3) ∷ [])
       (equal (whole-number 8) (equal half (equal (half_sum faces.list) (equal (whole-number 2) (equal sixteen
       (scaled (n 2 (unit_of 20) u) fewer (scaled (n 4 (unit_of 20) u) some_area
+      (scaled (Order.nonnegative-number fractions 63) (Order.nought-≼ fractions u)
       (scaled (Order.nonnegative-add fractions (n 2 S area) (n 8 K K_is)) (Order.nought-≼ fractions spread_is)
-      (scaled (Order.nonnegative-add fractions (n 40 S area) (n 122 K K_is)) (Order.nought-≼ fractions u) no_more)))))))))
-      (var 0 :* ((var 2 :+ var 2) :+ number 24 :* var 3) :+ var 1 :* (number 2 :* var 3))
+      (scaled (Order.nonnegative-add fractions (n 40 S area) (n 122 K K_is)) (Order.nought-≼ fractions u) no_more))))))))))
+      ((var 0 :* ((var 2 :+ var 2) :+ number 24 :* var 3) :+ var 1 :* (number 2 :* var 3)) :+ number 189 :* var 3)
       ((((var 8 :* (var 5 :+ var 4)) :* (var 2 :+ var 9)) :* var 6 :- number 2 :* var 3) :* var 7) refl
     where
       u : sign (unit_of 20) ≢ below
@@ -347,26 +341,26 @@ module _ (faces : Faces) (b : PlaneBox) (few : length faces.list < 2 ^ 14) where
       n : (k : ℕ) (x : Fraction) → sign x ≢ below → sign (number_value fraction_ring.operations k ⊗ x) ≢ below
       n k x h = Order.nonnegative-mul fractions (Order.nonnegative-number fractions k) h
 
-  pub volume-room : {low high lo hi : ℤ} → IsNarrow 20 (sum_over (λ f. volume_part s (doubled_area f)) faces.list) low high → ((hi -ℤ lo) *ℤ pos 2)
+  pub strips-room : {low high lo hi : ℤ} → IsNarrow 20 (sum_over (λ f. volume_part s (doubled_area f)) faces.list ⊕ units 20 189) low high → ((hi -ℤ lo) *ℤ pos 2)
       ≤ℤ ((high -ℤ low) +ℤ pos (2 * 2)) → IsNarrow 20 (W ⊗ inverse (whole (pos 2))) lo hi
-  volume-room narrow quotient = narrow-wider (Order.≼_same fractions (ring fraction_ring ((W ⊗ inverse (whole (pos 2))) ∷ unit_of 20 ∷ [])
+  strips-room narrow quotient = narrow-wider (Order.≼_same fractions (ring fraction_ring ((W ⊗ inverse (whole (pos 2))) ∷ unit_of 20 ∷ [])
       ((var 0 :- number 2 :* var 1) :+ number 2 :* var 1) (var 0) refl))
-      (narrow-over (W ⊗ inverse (whole (pos 2)) ⊖ units 20 2) 2 (omega arith) quotient narrow (Order.≼_trans fractions
+      (narrow-over (W ⊗ inverse (whole (pos 2)) ⊖ units 20 2) 2 (omega arith) quotient narrow (with_units _ _ _
       (Order.≼_same fractions (sum_affine faces.list (λ f. volume_part s (doubled_area f)) ((s ⊕ s) ⊕ units 20 24) (units 20 2) (λ f. refl))) half_enough))
 
-  pub volume-total : {low high lo hi : ℤ} → IsNarrow 20 (sum_over (λ f. volume_part s (doubled_area f)) faces.list) low high → ((hi -ℤ lo) *ℤ pos 2)
+  pub strips-volume : {low high lo hi : ℤ} → IsNarrow 20 (sum_over (λ f. volume_part s (doubled_area f)) faces.list ⊕ units 20 189) low high → ((hi -ℤ lo) *ℤ pos 2)
       ≤ℤ ((high -ℤ low) +ℤ pos (2 * 2)) → IsNarrow 20 W lo hi
-  volume-total narrow quotient = narrow-wider (order_from fractions (W ∷ inverse (whole (pos 2)) ∷ whole (pos 2) ∷ [])
+  strips-volume narrow quotient = narrow-wider (order_from fractions (W ∷ inverse (whole (pos 2)) ∷ whole (pos 2) ∷ [])
       ((var 0, number 0, var 1) ∷ (opposite (var 0 :* var 1), var 2, number 2) ∷ (var 0, var 2 :* var 1, unit) ∷ [])
       (scaled bound_is (Order.nought-≼ fractions half_is) (equal (whole-number 2) (equal half no_more))) (var 0 :* var 1) (var 0) refl)
-      (volume-room narrow quotient)
+      (strips-room narrow quotient)
     where
       half_is : sign (inverse (whole (pos 2))) ≢ below
       half_is = Order.nonnegative_positive fractions (Bounds.positive-inverse fractions (positive-whole 2 (omega arith)))
 
-  pub length-total : {low high lo hi : ℤ} → IsNarrow 20 (sum_over (λ f. length_part (whole faces.last_x) s (doubled_area f)) faces.list) low high
+  pub strips-length : {low high lo hi : ℤ} → IsNarrow 20 (sum_over (λ f. length_part (whole faces.last_x) s (doubled_area f)) faces.list ⊕ units 20 189) low high
       → ((hi -ℤ lo) *ℤ pos 2) ≤ℤ ((high -ℤ low) +ℤ pos (2 * 2)) → IsNarrow 20 (whole faces.last_x ⊗ W) lo hi
-  length-total narrow quotient = over_two (whole faces.last_x) _ some (lengths (whole faces.last_x) some) narrow quotient
+  strips-length narrow quotient = over_two (whole faces.last_x) _ some (lengths (whole faces.last_x) some) narrow quotient
     where
       some : one ≼ whole faces.last_x
       some = Order.≼_trans fractions (Order.≼_same fractions (sym whole-one)) (whole-≼
@@ -375,14 +369,27 @@ module _ (faces : Faces) (b : PlaneBox) (few : length faces.list < 2 ^ 14) where
           ahead : (first last : ℤ) → pos 0 ≤ℤ first → first <ℤ last → pos 1 ≤ℤ last
           ahead first last h k = omega (arith, ints)
 
-  pub side-total : {low high lo hi : ℤ} → IsNarrow 20 (sum_over (λ f. height_part (reach_of faces b) s (doubled_area f)) faces.list) low high
+  pub strips-side : {low high lo hi : ℤ} → IsNarrow 20 (sum_over (λ f. height_part (reach_of faces b) s (doubled_area f)) faces.list ⊕ units 20 189) low high
       → ((hi -ℤ lo) *ℤ pos 2) ≤ℤ ((high -ℤ low) +ℤ pos (2 * 2)) → IsNarrow 20 (reach_of faces b ⊗ W) lo hi
-  side-total narrow quotient = over_two (reach_of faces b) _ (some_reach faces b) (heights (reach_of faces b) (some_reach faces b)) narrow quotient
+  strips-side narrow quotient = over_two (reach_of faces b) _ (some_reach faces b) (heights (reach_of faces b) (some_reach faces b)) narrow quotient
 
-  pub height-total : {low high lo hi : ℤ} → low ≤ℤ high → IsNarrow 20 (sum_over (λ f. height_part (reach_of faces b) s (doubled_area f)) faces.list)
+  pub strips-height : {low high lo hi : ℤ} → low ≤ℤ high → IsNarrow 20 (sum_over (λ f. height_part (reach_of faces b) s (doubled_area f)) faces.list ⊕ units 20 189)
       low high → ((hi -ℤ lo) *ℤ pos 4) ≤ℤ ((high -ℤ low) +ℤ pos (2 * 4)) → IsNarrow 20 (reach_of faces b ⊗ W) lo hi
-  height-total order narrow quotient = over_four (reach_of faces b) _ (some_reach faces b) (heights (reach_of faces b) (some_reach faces b)) order
+  strips-height order narrow quotient = over_four (reach_of faces b) _ (some_reach faces b) (heights (reach_of faces b) (some_reach faces b)) order
       narrow quotient
+
+  -- ---- the same of sums over all faces at once
+  no_wider : (w : Fraction) {lo hi : ℤ} → IsNarrow 20 w lo hi → IsNarrow 20 (w ⊕ units 20 189) lo hi
+  no_wider w h = narrow-wider (order_from fractions (w ∷ unit_of 20 ∷ []) ((number 189, number 0, var 1) ∷ [])
+      (scaled (Order.nonnegative-number fractions 189) (Order.nought-≼ fractions (nonnegative-unit_of 20)) no_more) (var 0) (var 0 :+ number 189 :* var 1) refl) h
+
+  pub volume-total : {low high lo hi : ℤ} → IsNarrow 20 (sum_over (λ f. volume_part s (doubled_area f)) faces.list) low high → ((hi -ℤ lo) *ℤ pos 2)
+      ≤ℤ ((high -ℤ low) +ℤ pos (2 * 2)) → IsNarrow 20 W lo hi
+  volume-total narrow quotient = strips-volume (no_wider _ narrow) quotient
+
+  pub length-total : {low high lo hi : ℤ} → IsNarrow 20 (sum_over (λ f. length_part (whole faces.last_x) s (doubled_area f)) faces.list) low high
+      → ((hi -ℤ lo) *ℤ pos 2) ≤ℤ ((high -ℤ low) +ℤ pos (2 * 2)) → IsNarrow 20 (whole faces.last_x ⊗ W) lo hi
+  length-total narrow quotient = strips-length (no_wider _ narrow) quotient
 
 pub nonnegative_bound : (faces : Faces) (b : PlaneBox) → sign (volume_bound faces b) ≢ below
 nonnegative_bound faces b = bound_is faces b faces.few

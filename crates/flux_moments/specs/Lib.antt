@@ -8,3 +8,6 @@ pub mod ColumnSizes
 pub mod LidWidths
 pub mod Shared
 pub mod PartSizes
+pub mod Water
+pub mod StripSizes
+pub mod Clear

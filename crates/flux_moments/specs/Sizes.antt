@@ -8,7 +8,7 @@ use Rattle.exact_algebra.proofs.Whole.{whole}
 use Rattle.hull_model.specs.declared.face.Face.{Face}
 use Rattle.hull_model.specs.declared.node.Node.{Node}
 use Rattle.outward_interval.specs.declared.span.Span.{Span}
-use Rattle.outward_interval.specs.Widths.{units, IsNarrow, IsNear}
+use Rattle.outward_interval.specs.Widths.{unit_of, units, IsNarrow, IsNear}
 use Rattle.flux_moments.specs.declared.plane_box.PlaneBox.{PlaneBox}
 
 -- how far apart the levels of a box lie, how wide its spans of cosine and sine are, and how far its levels lie from 0
@@ -46,7 +46,18 @@ Reaches b h n = b.level ⊕ distance n ≼ h
 abbrev pub spread : BoxSize → Fraction → Fraction
 spread b h = b.rise ⊕ b.turn ⊗ h
 
--- no span of a corner is wider than s or farther from 0 than h, but for the rounding
+-- so far under water or above it a node is known to be by the spans of its depth
+abbrev pub margin : BoxSize → Fraction → Fraction
+margin b h = b.turn ⊗ h ⊕ unit_of 16
+
+-- neither the span of a corner's depth nor that of level and height together is wider than s or farther from 0 than h, but for the rounding
+pub record IsElevationSize (s h : Fraction) (depth middle : Span 20) : Type 0 where
+  pub depth_width : IsNarrow 20 (s ⊕ units 20 4) depth.lo depth.hi
+  pub depth_reach : IsNear 20 (h ⊕ units 20 2) depth.lo depth.hi
+  pub middle_width : IsNarrow 20 (s ⊕ units 20 4) middle.lo middle.hi
+  pub middle_reach : IsNear 20 (h ⊕ units 20 2) middle.lo middle.hi
+
+-- no span of a corner is
 pub record IsCornerSize (s h : Fraction) (depth side middle : Span 20) : Type 0 where
   pub depth_width : IsNarrow 20 (s ⊕ units 20 4) depth.lo depth.hi
   pub depth_reach : IsNear 20 (h ⊕ units 20 2) depth.lo depth.hi

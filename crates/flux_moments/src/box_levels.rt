@@ -1,13 +1,14 @@
 // The level at a place of the ship, for all planes of a box.
-ghost use Rattle.std.specs.Prelude.{◌≡◌, ◌*◌, ◌^◌, ◌≤◌, ◌≤ℤ◌, ◌<ℤ◌, ◌+ℤ◌, ◌*ℤ◌, ℤ, pos, unsigned_abs};
-ghost use Rattle.exact_algebra.proofs.Fraction.{Fraction, ◌⊕◌};
-ghost use Rattle.exact_algebra.proofs.Span.{ContainsFraction};
+ghost use Rattle.std.specs.Prelude.{◌≡◌, ◌*◌, ◌^◌, ◌≤◌, ◌≤ℤ◌, ◌<ℤ◌, ◌+ℤ◌, ◌-ℤ◌, ◌*ℤ◌, ℤ, pos, unsigned_abs};
+ghost use Rattle.exact_algebra.proofs.Fraction.{Fraction, ◌⊕◌, ◌≼◌};
+ghost use Rattle.exact_algebra.proofs.Span.{ContainsFraction, in_units};
 ghost use Rattle.exact_algebra.proofs.Whole.{whole};
 ghost use Rattle.exact_algebra.specs.Span.{IsFloor, IsCeiling};
 ghost use Rattle.hull_model.specs.Body.{IsWithin};
 ghost use Rattle.hull_model.specs.Waterplane.{Waterplane, level_at};
 ghost use Rattle.outward_interval.specs.Ends.{AreLeastEnds};
 ghost use Rattle.outward_interval.specs.Widths.{units, IsNarrow, IsNear};
+ghost use Rattle.plane_clip.specs.Enclosure.{in_unit};
 ghost use Rattle.flux_moments.specs.Limits.{EndsAtMost};
 ghost use Rattle.flux_moments.specs.Planes.{IsIn, AreLevelEnds};
 
@@ -36,6 +37,8 @@ pub(crate) fn levels_at(planes: &PlaneBox, way: ShipLength, x: i64) -> Span<20>
     ensures contains { (plane : Waterplane) → IsIn planes.now plane → ContainsFraction 20 result.lo result.hi (level_at plane way.first way.last (whole x)) }
     ensures narrow { (d : Fraction) → IsNarrow 10 d planes.now.a1 planes.now.a2 → IsNarrow 10 d planes.now.f1 planes.now.f2 → IsNarrow 20 (d ⊕ units 20 2) result.lo result.hi }
     ensures near { (l : Fraction) → IsNear 10 l planes.now.a1 planes.now.a2 → IsNear 10 l planes.now.f1 planes.now.f2 → IsNear 20 (l ⊕ units 20 1) result.lo result.hi }
+    ensures least { (plane : Waterplane) → plane.a ≡ in_unit 10 planes.now.a1 → plane.f ≡ in_unit 10 planes.now.f1 → in_units 20 (level_at plane way.first way.last (whole x)) ≼ whole (result.lo +ℤ pos 1) }
+    ensures greatest { (plane : Waterplane) → plane.a ≡ in_unit 10 planes.now.a2 → plane.f ≡ in_unit 10 planes.now.f2 → whole (result.hi -ℤ pos 1) ≼ in_units 20 (level_at plane way.first way.last (whole x)) }
     ensures level { (d1 d2 : ℤ) → (planes.now.a1 ≡ d1) × (planes.now.a2 ≡ d2) → (planes.now.f1 ≡ d1) × (planes.now.f2 ≡ d2) → (result.lo ≡ d1 *ℤ pos 1024) × (result.hi ≡ d2 *ℤ pos 1024) }
 {
     if planes.a1 == planes.f1 && planes.a2 == planes.f2 {

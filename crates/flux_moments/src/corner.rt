@@ -1,6 +1,6 @@
 // Corners of a face at the planes of a box.
 ghost use Rattle.std.specs.Prelude.{◌≡◌, ◌+◌, ◌*◌, ◌^◌, ◌≤ℤ◌, ◌-ℤ◌, ◌*ℤ◌, ℤ, pos, unsigned_abs};
-ghost use Rattle.exact_algebra.proofs.Fraction.{Fraction, ◌⊕◌, ◌⊗◌};
+ghost use Rattle.exact_algebra.proofs.Fraction.{Fraction, ◌⊕◌, ◌⊗◌, negative, ◌≼◌};
 ghost use Rattle.exact_algebra.proofs.Span.{ContainsFraction};
 ghost use Rattle.exact_algebra.proofs.Whole.{whole};
 ghost use Rattle.exact_fraction.specs.Bounds.{MagnitudeBelow};
@@ -10,9 +10,10 @@ ghost use Rattle.outward_interval.specs.Widths.{units, IsNarrow, IsNear};
 ghost use Rattle.flux_moments.specs.Columns as columns;
 ghost use Rattle.flux_moments.specs.Limits.{EndsAtMost};
 ghost use Rattle.flux_moments.specs.Planes.{HasDirectionIn, IsIn, cosine, sine};
-ghost use Rattle.flux_moments.specs.Sizes.{BoxSize, HasSize, IsLevelBox, distance, Reaches, spread, IsCornerSize};
+ghost use Rattle.flux_moments.specs.Sizes.{BoxSize, HasSize, IsLevelBox, distance, Reaches, spread, margin, IsElevationSize, IsCornerSize};
 
 use crate::box_levels::levels_at;
+use crate::multiples::Multiples;
 use crate::{PlaneBox, ShipLength};
 use angle_bounds::Bracket;
 use hull_model::Node;
@@ -32,23 +33,45 @@ pub(crate) struct Corner {
     ghost middle_ends: { EndsAtMost (9 * 2 ^ 37 + 1) middle.lo middle.hi },
 }
 
-impl Corner {
-    pub(crate) fn of(planes: &PlaneBox, way: ShipLength, node: Node) -> Corner
+/// The depth of a corner, and the sum of the level and its height, in mm, at the planes of a box.
+#[derive(Clone, Copy)]
+pub(crate) struct Elevation {
+    pub(crate) depth: Span<20>,
+    pub(crate) middle: Span<20>,
+    ghost depth_ends: { EndsAtMost (9 * 2 ^ 37 + 1) depth.lo depth.hi },
+    ghost middle_ends: { EndsAtMost (9 * 2 ^ 37 + 1) middle.lo middle.hi },
+}
+
+impl Elevation {
+    pub(crate) fn of(planes: &PlaneBox, way: ShipLength, node: Node) -> Elevation
         requires node { IsNode node }
         requires between { (way.first ≤ℤ node.x) × (node.x ≤ℤ way.last) }
-        ensures x { result.x ≡ node.x }
         ensures depth { (plane : Waterplane) → IsIn planes.now plane → ContainsFraction 20 result.depth.lo result.depth.hi (columns.depth_of plane way.first way.last node) }
-        ensures side { (plane : Waterplane) → IsIn planes.now plane → ContainsFraction 20 result.side.lo result.side.hi (side_distance plane (position_of node)) }
         ensures middle { (plane : Waterplane) → IsIn planes.now plane → ContainsFraction 20 result.middle.lo result.middle.hi (level_at plane way.first way.last (whole node.x) ⊕ height plane (position_of node)) }
-        ensures size { (b : BoxSize) (h : Fraction) → HasSize planes.now b → Reaches b h node → IsCornerSize (spread b h) h result.depth result.side result.middle }
+        ensures size { (b : BoxSize) (h : Fraction) → HasSize planes.now b → Reaches b h node → IsElevationSize (spread b h) h result.depth result.middle }
     {
         let level = levels_at(planes, way, node.x);
         let height = height_of(&planes.bracket, node);
+        Elevation {
+            depth: level - height,
+            middle: level + height,
+        }
+    }
+
+    /// The corner at this node.
+    pub(crate) fn corner(self, planes: &PlaneBox, node: Node) -> Corner
+        requires node { IsNode node }
+        ensures x { result.x ≡ node.x }
+        ensures depth { result.depth ≡ self.depth }
+        ensures side { (plane : Waterplane) → IsIn planes.now plane → ContainsFraction 20 result.side.lo result.side.hi (side_distance plane (position_of node)) }
+        ensures middle { result.middle ≡ self.middle }
+        ensures size { (b : BoxSize) (h : Fraction) → HasSize planes.now b → Reaches b h node → IsElevationSize (spread b h) h self.depth self.middle → IsCornerSize (spread b h) h result.depth result.side result.middle }
+    {
         Corner {
             x: node.x,
-            depth: level - height,
+            depth: self.depth,
             side: side_of(&planes.bracket, node),
-            middle: level + height,
+            middle: self.middle,
         }
     }
 }
@@ -61,6 +84,8 @@ pub(crate) fn depth_of(planes: &PlaneBox, way: ShipLength, node: Node) -> Span<2
     ensures contains { (plane : Waterplane) → IsIn planes.now plane → ContainsFraction 20 result.lo result.hi (columns.depth_of plane way.first way.last node) }
     ensures narrow { (b : BoxSize) (h : Fraction) → HasSize planes.now b → Reaches b h node → IsNarrow 20 (spread b h ⊕ units 20 4) result.lo result.hi }
     ensures near { (b : BoxSize) (h : Fraction) → HasSize planes.now b → Reaches b h node → IsNear 20 (h ⊕ units 20 2) result.lo result.hi }
+    ensures under { (b : BoxSize) (h : Fraction) → HasSize planes.now b → Reaches b h node → ((plane : Waterplane) → IsIn planes.now plane → margin b h ≼ columns.depth_of plane way.first way.last node) → pos 1 ≤ℤ result.lo }
+    ensures out { (b : BoxSize) (h : Fraction) → HasSize planes.now b → Reaches b h node → ((plane : Waterplane) → IsIn planes.now plane → columns.depth_of plane way.first way.last node ≼ negative (margin b h)) → result.hi ≤ℤ pos 0 }
     ensures level { (d1 d2 : ℤ) → IsLevelBox planes.now d1 d2 → (result.lo ≡ (d1 *ℤ pos 1024) -ℤ (node.z *ℤ pos (2 ^ 20))) × (result.hi ≡ (d2 *ℤ pos 1024) -ℤ (node.z *ℤ pos (2 ^ 20))) }
 {
     levels_at(planes, way, node.x) - height_of(&planes.bracket, node)
@@ -75,9 +100,9 @@ fn height_of(bracket: &Bracket, node: Node) -> Span<20>
     ensures near { IsNear 20 (distance node ⊕ units 20 1) result.lo result.hi }
     ensures upright { (bracket.now.c.lo ≡ pos (2 ^ 40)) × (bracket.now.c.hi ≡ pos (2 ^ 40)) → (bracket.now.s.lo ≡ pos 0) × (bracket.now.s.hi ≡ pos 0) → (result.lo ≡ node.z *ℤ pos (2 ^ 20)) × (result.hi ≡ node.z *ℤ pos (2 ^ 20)) }
 {
-    let along = times_cosine(bracket, node.z);
-    let across = times_sine(bracket, node.y);
-    (along + across).rescale()
+    let along = Multiples::of(bracket.c, node.z);
+    let across = Multiples::of(bracket.s, node.y);
+    along.plus(across)
 }
 
 /// The distance of a node from the centreplane towards the low side, for all directions of a bracket.
@@ -88,9 +113,9 @@ fn side_of(bracket: &Bracket, node: Node) -> Span<20>
     ensures narrow { (e : Fraction) → IsNarrow 40 e bracket.now.c.lo bracket.now.c.hi → IsNarrow 40 e bracket.now.s.lo bracket.now.s.hi → IsNarrow 20 (e ⊗ distance node ⊕ units 20 2) result.lo result.hi }
     ensures near { IsNear 20 (distance node ⊕ units 20 1) result.lo result.hi }
 {
-    let along = times_sine(bracket, node.z);
-    let across = times_cosine(bracket, node.y);
-    (along - across).rescale()
+    let along = Multiples::of(bracket.s, node.z);
+    let across = Multiples::of(bracket.c, node.y);
+    along.minus(across)
 }
 
 /// The cosine times a whole number, for all directions of a bracket.

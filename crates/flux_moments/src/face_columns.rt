@@ -19,7 +19,7 @@ ghost use Rattle.flux_moments.specs.Planes.{IsIn, cosine, sine};
 ghost use Rattle.flux_moments.specs.Wets.{AreEndsAtMost, AreColumnEnds};
 ghost use Rattle.flux_moments.specs.Sizes.{BoxSize, HasSize, Reaches, spread, doubled_area, column_width, product_width, volume_part};
 
-use crate::corner::{Corner, depth_of, times_cosine, times_sine};
+use crate::corner::{Corner, Elevation, depth_of, times_cosine, times_sine};
 use crate::dry::{are_dry, is_nothing, nothing};
 use crate::{PlaneBox, ShipLength, Wet};
 use hull_model::Face;
@@ -39,22 +39,22 @@ pub(crate) fn columns(face: &Face, planes: &PlaneBox, way: ShipLength) -> Wet
     ensures widths { (b : BoxSize) (h : Fraction) → HasSize planes.now b → one ≼ h → AllByRecursion (Reaches b h) face.now.p → AreColumnWidths (whole way.last) h (spread b h) (doubled_area face.now) result }
 {
     let [p, q, r] = face.p;
-    let depths = [
-        depth_of(planes, way, p),
-        depth_of(planes, way, q),
-        depth_of(planes, way, r),
-    ];
-    if are_dry(&depths) {
+    let first = Elevation::of(planes, way, p);
+    let second = Elevation::of(planes, way, q);
+    let third = Elevation::of(planes, way, r);
+    if are_dry(&[first.depth, second.depth, third.depth]) {
         return Wet::nothing();
     }
     let factor = factor_of(face, planes);
     if is_nothing(factor) {
         return Wet::nothing();
     }
-    let first = Corner::of(planes, way, p);
-    let second = Corner::of(planes, way, q);
-    let third = Corner::of(planes, way, r);
-    columns_at(&first, &second, &third, factor)
+    columns_at(
+        &first.corner(planes, p),
+        &second.corner(planes, q),
+        &third.corner(planes, r),
+        factor,
+    )
 }
 
 /// Twice the volume of the column between the wet part of a face and the waterplane, with its sign.

@@ -5,13 +5,17 @@ mod box_levels;
 mod corner;
 mod dry;
 mod face_columns;
+mod face_sums;
 mod lid_sums;
+mod multiples;
 mod part_columns;
 mod plane_box;
+mod strip_sums;
 mod sums;
 #[cfg(test)]
 mod tests;
 mod totals;
+mod water;
 mod wet;
 
 pub use box_levels::{ShipLength, trimmed_levels_at};

@@ -12,19 +12,24 @@ ghost use Rattle.hull_model.specs.Lid as model;
 ghost use Rattle.hull_model.specs.Waterplane.{upright};
 ghost use Rattle.hull_polyhedron.specs.Between.{LieBetween, IsInside, LieInside};
 ghost use Rattle.hull_polyhedron.specs.FacesOf.{AreFacesOf};
+ghost use Rattle.hull_polyhedron.specs.StripLaw.{strip_lid};
+ghost use Rattle.hull_polyhedron.specs.Strips.{strip_at};
+ghost use Rattle.hull_polyhedron.specs.StripsOf.{strip_count, strip_faces};
 ghost use Rattle.outward_interval.specs.Ends.{EndsBelow};
 ghost use Rattle.outward_interval.specs.Widths.{units, IsNarrow};
 ghost use Rattle.outward_interval.specs.declared.span.Span as span;
 ghost use Rattle.plane_clip.specs.Enclosure.{Each, EnclosesMean, IsNoWider, CornerDepths, AreWithin, corner_means, pair_means};
 ghost use Rattle.flux_moments.specs.Columns.{lid_part, lid_parts, linear_at, square_at};
 ghost use Rattle.flux_moments.specs.Limits.{AreLevels, EndsAtMost, EndsLess};
-ghost use Rattle.flux_moments.specs.LidWidths.{IsNoLid, AreSeenWidths, AreLidWidths, rise_between};
+ghost use Rattle.flux_moments.specs.LidWidths.{IsNoLid, AreLidEnds, AreSeenWidths, AreLidWidths, rise_between};
 ghost use Rattle.flux_moments.specs.Planes.{IsIn};
 ghost use Rattle.flux_moments.specs.Sizes.{IsLevelBox};
 ghost use Rattle.flux_moments.specs.Widths.{lid_bound};
 
 use crate::corner::depth_of;
 use crate::dry::{are_dry, nothing};
+use crate::strip_sums::length_of;
+use crate::water::{Water, water_of};
 use crate::{PlaneBox, ShipLength};
 use hull_model::Face;
 use hull_polyhedron::Faces;
@@ -66,8 +71,8 @@ impl LidSums {
 /// squared times B, and `sxx` than the last x squared times B.
 ///
 /// The ends lie below 2^71 units of 2^-20 in magnitude for the area, below 2^92 for `sx`, and below 2^113 for `syy` and
-/// `sxx`. One pass over the faces: each gives what is seen of its wet part from above, and a face that points downwards
-/// adds what one that points upwards takes away.
+/// `sxx`. One pass over the strips that are neither dry nor under water at all levels: each of their faces gives what is
+/// seen of its wet part from above, and a face that points downwards adds what one that points upwards takes away.
 pub fn lid(faces: &Faces, d1: i64, d2: i64) -> LidSums
     requires levels { AreLevels d1 d2 d1 d2 }
     ensures area { (stations : List Station) → IsHull stations → AreFacesOf stations faces.now → (at : Fraction) → ContainsFraction 10 d1 d2 at → ContainsFraction 20 result.area.lo result.area.hi (model.lid_area at stations) }
@@ -83,11 +88,7 @@ pub fn lid(faces: &Faces, d1: i64, d2: i64) -> LidSums
     ensures syy_width { IsNarrow 20 ((whole faces.now.half_breadth ⊗ whole faces.now.half_breadth) ⊗ lid_bound faces.now d1 d2) result.syy.lo result.syy.hi }
     ensures sxx_width { IsNarrow 20 ((whole faces.now.last_x ⊗ whole faces.now.last_x) ⊗ lid_bound faces.now d1 d2) result.sxx.lo result.sxx.hi }
 {
-    let way = ShipLength {
-        first: faces.first_x(),
-        last: faces.last_x(),
-    };
-    let sums = seen_sums(faces.list(), &level_planes(d1, d2), way);
+    let sums = lids_of_strips(faces, &level_planes(d1, d2));
     LidSums {
         area: sums.area.over_whole(2),
         sx: sums.sx.over_whole(2),
@@ -108,6 +109,50 @@ fn level_planes(d1: i64, d2: i64) -> PlaneBox
     }
 }
 
+/// Twice the sums over the lids of the strips of a hull.
+fn lids_of_strips(faces: &Faces, planes: &PlaneBox) -> LidSums
+    ensures area { (stations : List Station) → IsHull stations → AreFacesOf stations faces.now → (at : Fraction) → IsIn planes.now (upright at) → ContainsFraction 20 result.area.lo result.area.hi (model.lid_area at stations ⊗ whole (pos 2)) }
+    ensures sx { (stations : List Station) → IsHull stations → AreFacesOf stations faces.now → (at : Fraction) → IsIn planes.now (upright at) → ContainsFraction 20 result.sx.lo result.sx.hi (model.lid_x at stations ⊗ whole (pos 2)) }
+    ensures syy { (stations : List Station) → IsHull stations → AreFacesOf stations faces.now → (at : Fraction) → IsIn planes.now (upright at) → ContainsFraction 20 result.syy.lo result.syy.hi (model.lid_yy at stations ⊗ whole (pos 2)) }
+    ensures sxx { (stations : List Station) → IsHull stations → AreFacesOf stations faces.now → (at : Fraction) → IsIn planes.now (upright at) → ContainsFraction 20 result.sxx.lo result.sxx.hi (model.lid_xx at stations ⊗ whole (pos 2)) }
+    ensures ends { AreLidEnds (length faces.now.list) result }
+    ensures widths { (d1 d2 : ℤ) → d1 ≤ℤ d2 → IsLevelBox planes.now d1 d2 → AreLidWidths faces.now.first_x faces.now.last_x d1 d2 (whole faces.now.last_x) (whole faces.now.half_breadth) faces.now.list result }
+{
+    let way = length_of(faces);
+    let mut sums = LidSums::nothing();
+    for n in 0..faces.strips() {
+        let part = lid_of_strip(faces, n, planes, way);
+        sums = LidSums {
+            area: sums.area + part.area,
+            sx: sums.sx + part.sx,
+            syy: sums.syy + part.syy,
+            sxx: sums.sxx + part.sxx,
+        };
+    }
+    sums
+}
+
+/// Twice the sums over the lid of one strip: there is none where it is dry or wholly under water.
+fn lid_of_strip(faces: &Faces, n: usize, planes: &PlaneBox, way: ShipLength) -> LidSums
+    requires strip { n < strip_count faces.now }
+    requires first { way.first ≡ faces.now.first_x }
+    requires last { way.last ≡ faces.now.last_x }
+    ensures area { (stations : List Station) → IsHull stations → AreFacesOf stations faces.now → (at : Fraction) → IsIn planes.now (upright at) → ContainsFraction 20 result.area.lo result.area.hi (strip_lid at stations model.level_area (strip_at stations n) ⊗ whole (pos 2)) }
+    ensures sx { (stations : List Station) → IsHull stations → AreFacesOf stations faces.now → (at : Fraction) → IsIn planes.now (upright at) → ContainsFraction 20 result.sx.lo result.sx.hi (strip_lid at stations (model.first_moment (λ p. p.x)) (strip_at stations n) ⊗ whole (pos 2)) }
+    ensures syy { (stations : List Station) → IsHull stations → AreFacesOf stations faces.now → (at : Fraction) → IsIn planes.now (upright at) → ContainsFraction 20 result.syy.lo result.syy.hi (strip_lid at stations (model.second_moment (λ p. p.y)) (strip_at stations n) ⊗ whole (pos 2)) }
+    ensures sxx { (stations : List Station) → IsHull stations → AreFacesOf stations faces.now → (at : Fraction) → IsIn planes.now (upright at) → ContainsFraction 20 result.sxx.lo result.sxx.hi (strip_lid at stations (model.second_moment (λ p. p.x)) (strip_at stations n) ⊗ whole (pos 2)) }
+    ensures few { length (strip_faces faces.now n) < 2 ^ 14 }
+    ensures ends { AreLidEnds (length (strip_faces faces.now n)) result }
+    ensures widths { (d1 d2 : ℤ) → d1 ≤ℤ d2 → IsLevelBox planes.now d1 d2 → AreLidWidths faces.now.first_x faces.now.last_x d1 d2 (whole faces.now.last_x) (whole faces.now.half_breadth) (strip_faces faces.now n) result }
+{
+    let strip = faces.strip_faces(n);
+    match water_of(faces.strip_nodes(n), planes, way) {
+        Water::Wet => LidSums::nothing(),
+        Water::Dry => LidSums::nothing(),
+        Water::Cut => seen_sums(strip, planes, way),
+    }
+}
+
 /// Twice the sums over the wet parts of faces, as they are seen from above.
 fn seen_sums(faces: &[Face], planes: &PlaneBox, way: ShipLength) -> LidSums
     requires limits { AllByRecursion IsFace faces.now }
@@ -117,12 +162,8 @@ fn seen_sums(faces: &[Face], planes: &PlaneBox, way: ShipLength) -> LidSums
     ensures sx { (at : Fraction) → IsIn planes.now (upright at) → ContainsFraction 20 result.sx.lo result.sx.hi (lid_parts at way.first way.last (λ p. p.x) (λ p. one) faces.now ⊗ whole (pos 2)) }
     ensures syy { (at : Fraction) → IsIn planes.now (upright at) → ContainsFraction 20 result.syy.lo result.syy.hi (lid_parts at way.first way.last (λ p. p.y) (λ p. p.y) faces.now ⊗ whole (pos 2)) }
     ensures sxx { (at : Fraction) → IsIn planes.now (upright at) → ContainsFraction 20 result.sxx.lo result.sxx.hi (lid_parts at way.first way.last (λ p. p.x) (λ p. p.x) faces.now ⊗ whole (pos 2)) }
-    ensures area_ends { EndsAtMost (16383 * 2 ^ 58) result.area.lo result.area.hi }
-    ensures sx_ends { EndsAtMost (16383 * 2 ^ 79) result.sx.lo result.sx.hi }
-    ensures syy_ends { EndsAtMost (16383 * 2 ^ 100) result.syy.lo result.syy.hi }
-    ensures sxx_ends { EndsAtMost (16383 * 2 ^ 100) result.sxx.lo result.sxx.hi }
+    ensures ends { AreLidEnds (length faces.now) result }
     ensures widths { (d1 d2 half_breadth height : ℤ) → IsLevelBox planes.now d1 d2 → LieInside half_breadth height faces.now → AreLidWidths way.first way.last d1 d2 (whole way.last) (whole half_breadth) faces.now result }
-    ensures none { length faces.now ≡ 0 → ((result.area.lo ≡ pos 0) × (result.area.hi ≡ pos 0)) × ((result.sx.lo ≡ pos 0) × (result.sx.hi ≡ pos 0)) × ((result.syy.lo ≡ pos 0) × (result.syy.hi ≡ pos 0)) × ((result.sxx.lo ≡ pos 0) × (result.sxx.hi ≡ pos 0)) }
 {
     let mut sums = LidSums::nothing();
     for face in faces {

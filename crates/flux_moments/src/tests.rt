@@ -217,6 +217,19 @@ fn boxes_at_their_limits(rt: HostRuntime) {
     }
 }
 
+// A hull that is wholly under water at all planes of a box has its own volume, whatever the levels.
+#[test]
+fn a_barge_under_water(rt: HostRuntime) -> Result<(), Fail> {
+    let faces = faces_from(rt.alloc(), BARGE)?.expect(&rt, "a hull");
+    let planes = PlaneBox::upright(12288000, 12289024, 12288000, 12289024).expect(&rt, "levels");
+    let wet = measure(&faces, &planes);
+    let (volume, mx) = (20971520000000000000, 1048576000000000000000000);
+    assert!(rt; is_within(wet.volume, volume, volume, 1024), "the volume");
+    assert!(rt; is_within(wet.mx, mx, mx, 102400000), "the integral of x");
+    assert_eq!(rt; volume_below(&faces, &planes), wet.volume);
+    Ok(())
+}
+
 // The volume below a box of planes runs from that below its lowest plane to that below its highest.
 #[test]
 fn a_box_of_planes_holds_all_its_planes(rt: HostRuntime) -> Result<(), Fail> {

@@ -1,5 +1,5 @@
 -- What a plan of floodable lengths keeps.
-use Rattle.std.proofs.Common.{◌≡◌, ◌<◌, ◌≤◌, ℕ, zero, suc, length, get_or, ℤ, pos, ◌≤ℤ◌, List, [], ◌∷◌, true, arith}
+use Rattle.std.proofs.Common.{◌≡◌, ◌<◌, ◌≤◌, ◌%◌, unsigned_abs, ℕ, zero, suc, length, get_or, ℤ, pos, ◌≤ℤ◌, List, [], ◌∷◌, true, arith}
 use Rattle.std.specs.List.{list_all}
 use Rattle.std.proofs.lemmas.Bool.{and_parts}
 use Rattle.std.proofs.lemmas.Grind.{common_steps}
@@ -20,3 +20,12 @@ few_centres centres step permeability limits = grind (arith, common_steps)
 
 pub step_within : (centres : List ℤ) (step : ℤ) (permeability : ℕ) → is_plan centres step permeability ≡ true → (pos 0 ≤ℤ step) × (step ≤ℤ pos 100000)
 step_within centres step permeability limits = (grind (arith, common_steps, ints), grind (arith, common_steps, ints))
+
+pub plan_step : (centres : List ℤ) (step : ℤ) (permeability : ℕ) → is_plan centres step permeability ≡ true → (pos 2 ≤ℤ step) × (step ≤ℤ pos 100000)
+plan_step centres step permeability limits = (grind (arith, common_steps, ints), grind (arith, common_steps, ints))
+
+pub plan_even : (centres : List ℤ) (step : ℤ) (permeability : ℕ) → is_plan centres step permeability ≡ true → unsigned_abs step % 2 ≡ 0
+plan_even centres step permeability limits = grind (arith, common_steps, ints)
+
+pub plan_permeability : (centres : List ℤ) (step : ℤ) (permeability : ℕ) → is_plan centres step permeability ≡ true → permeability ≤ 1000
+plan_permeability centres step permeability limits = grind (arith, common_steps)

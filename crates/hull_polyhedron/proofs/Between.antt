@@ -53,7 +53,7 @@ module _ (OfNode : Node → Type 0) (at_foot : (n : Node) → OfNode n → OfNod
     (either_way (not b) _ (at_foot p h, (h, (k, tt))), (either_way (not b) _ (at_foot p h, (at_foot q k, (at_mirror q k, tt))), (either_way b _ (at_foot p h, (at_mirror p h, (at_mirror q k, tt))), tt))),
   )
 
-  end_wall_holds : (b : Bool) (nodes : List Node) → AllByRecursion OfNode nodes → AllByRecursion OfCorners (end_wall b nodes)
+  pub end_wall_holds : (b : Bool) (nodes : List Node) → AllByRecursion OfNode nodes → AllByRecursion OfCorners (end_wall b nodes)
   end_wall_holds b [] all = tt
   end_wall_holds b (p ∷ []) all = tt
   end_wall_holds b (p ∷ q ∷ rest) all = all-append OfCorners (wall b p q) (end_wall b (q ∷ rest)) (wall_holds b p q all.0 all.1.0) (end_wall_holds b (q ∷ rest) all.1)
@@ -63,7 +63,7 @@ module _ (OfNode : Node → Type 0) (at_foot : (n : Node) → OfNode n → OfNod
   bottom_holds (p ∷ aft) [] h k = tt
   bottom_holds (p ∷ aft) (q ∷ fore) h k = wall_holds false p q h.0 k.0
 
-  highest_holds : (p : Node) (rest : List Node) → OfNode p → AllByRecursion OfNode rest → OfNode (highest p rest)
+  pub highest_holds : (p : Node) (rest : List Node) → OfNode p → AllByRecursion OfNode rest → OfNode (highest p rest)
   highest_holds p [] h all = h
   highest_holds p (q ∷ rest) h all = highest_holds q rest all.0 all.1
 
@@ -98,7 +98,7 @@ module _ (OfNode : Node → Type 0) (at_foot : (n : Node) → OfNode n → OfNod
   chains_hold (p ∷ aft) (q ∷ fore) h k = zipper_holds p aft q fore h.0 h.1 k.0 k.1
 
   -- ---- stations
-  strip_holds : (s t : Station) → OfStation s → OfStation t → AllByRecursion OfCorners (strip s t)
+  pub strip_holds : (s t : Station) → OfStation s → OfStation t → AllByRecursion OfCorners (strip s t)
   strip_holds s t aft fore =
       all-append OfCorners (flat_map sides (between_stations s t) ++ bottom (chain s) (chain t)) (top (chain s) (chain t))
       (all-append OfCorners (flat_map sides (between_stations s t)) (bottom (chain s) (chain t)) (all_sides (between_stations s t) (chains_hold (chain s) (chain t) aft fore)) (bottom_holds (chain s) (chain t) aft fore))

@@ -13,7 +13,7 @@ use Rattle.hull_model.specs.Faces.{face_of}
 use Rattle.hull_model.specs.Zipper.{fore_triangles, advance, zipper, between_chains, between_stations, chain}
 use Rattle.hull_polyhedron.specs.Listed.{has_area, kept, sides, turned_unless, mirrored_triangle, is_on_centreplane, wall, end_wall, bottom, top, highest, strip, strips, first_end, last_end, listed}
 
-length_map : {A B : Type 0} (f : A → B) (xs : List A) → length (map f xs) ≡ length xs
+pub length_map : {A B : Type 0} (f : A → B) (xs : List A) → length (map f xs) ≡ length xs
 length_map f [] = refl
 length_map f (x ∷ xs) = ap suc (length_map f xs)
 
@@ -53,7 +53,7 @@ zipper_length p [] q fore = fore_length p q fore ∙ sym_zero (length fore)
     sym_zero n = omega arith
 zipper_length p (n ∷ aft) q fore = advance_length p n (zipper n aft) (length aft) (zipper_length n aft) q fore
 
-chains_length : (aft fore : List Node) → length (between_chains aft fore) ≤ length aft + length fore
+pub chains_length : (aft fore : List Node) → length (between_chains aft fore) ≤ length aft + length fore
 chains_length [] fore = omega arith
 chains_length (p ∷ aft) [] = omega arith
 chains_length (p ∷ aft) (q ∷ fore) = omega (arith, zipper_length p aft q fore)

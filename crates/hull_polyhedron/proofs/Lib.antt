@@ -37,3 +37,15 @@ pub mod HullCorners
 pub mod RisingHull
 pub mod DamageBox
 pub mod DryAndWet
+pub mod PartSlices
+pub mod RunningTotals
+pub mod FacesInStrips
+pub mod StripByStrip
+pub mod StripColumns
+pub mod StripWhole
+pub mod StripsOfHull
+pub mod StripsApart
+pub mod SideAreas
+pub mod StripSizes
+pub mod LastStrips
+pub mod KeptStrips

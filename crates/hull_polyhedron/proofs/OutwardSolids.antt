@@ -5,6 +5,9 @@ use Rattle.std.specs.List.{AllByRecursion}
 use Rattle.exact_algebra.proofs.Fraction.{fractions}
 use Rattle.exact_algebra.proofs.Whole.{whole-nought, whole-≼}
 use Rattle.exact_algebra.proofs.Order as Order
+use Rattle.hull_model.specs.declared.station.Station.{Station}
+use Rattle.hull_model.specs.Body.{IsStation}
+use Rattle.hull_model.specs.Lists.{Rises}
 use Rattle.hull_model.specs.TetrahedronCut.{with_corners}
 use Rattle.hull_model.specs.Tetrahedra.{turned_six}
 use Rattle.hull_model.specs.SignedFaces.{Signed, signed_tetrahedra}
@@ -29,5 +32,8 @@ all_points : (ss : List Signed) → AllByRecursion IsRight ss → AllByRecursion
 all_points [] right = tt
 all_points (s ∷ ss) right = (right_points s right.0, all_points ss right.1)
 
+pub points_outwards : (stations : List Station) → AllByRecursion IsStation stations → Rises (λ s. s.x) stations → AllByRecursion PointsOutwards (signed_tetrahedra stations)
+points_outwards stations each rises = all_points (signed_tetrahedra stations) (all_right stations each rises)
+
 pub solids_point_outwards : SignsAreRight
-solids_point_outwards stations hull = all_points (signed_tetrahedra stations) (all_right stations hull.each hull.places_rise)
+solids_point_outwards stations hull = points_outwards stations hull.each hull.places_rise

@@ -110,15 +110,15 @@ module _ (t : Triangle Node) where
   foot_of : Expression × Expression × Expression → Expression × Expression × Expression
   foot_of n = (n.0, number 0, n.2)
 
-  first_six : turned_six (tetrahedron (foot t.a) (foot t.b) (foot t.c) t.c) ≡ neg_ℤ (turn t *ℤ t.c.y)
+  pub first_six : turned_six (tetrahedron (foot t.a) (foot t.b) (foot t.c) t.c) ≡ neg_ℤ (turn t *ℤ t.c.y)
   unfolding six_of_nodes A B C foot_of
   first_six = ring integers (nine t) (six_of_nodes (foot_of A) (foot_of B) (foot_of C) C) (opposite (turn_of :* var 7)) refl
 
-  second_six : turned_six (tetrahedron (foot t.a) (foot t.b) t.b t.c) ≡ turn t *ℤ t.b.y
+  pub second_six : turned_six (tetrahedron (foot t.a) (foot t.b) t.b t.c) ≡ turn t *ℤ t.b.y
   unfolding six_of_nodes A B C foot_of
   second_six = ring integers (nine t) (six_of_nodes (foot_of A) (foot_of B) B C) (turn_of :* var 4) refl
 
-  third_six : turned_six (tetrahedron (foot t.a) t.a t.b t.c) ≡ neg_ℤ (turn t *ℤ t.a.y)
+  pub third_six : turned_six (tetrahedron (foot t.a) t.a t.b t.c) ≡ neg_ℤ (turn t *ℤ t.a.y)
   unfolding six_of_nodes A B C foot_of
   third_six = ring integers (nine t) (six_of_nodes (foot_of A) A B C) (opposite (turn_of :* var 1)) refl
 
@@ -148,7 +148,7 @@ three_right t proper =
     let third : IsRight (signed (turns_back t) (tetrahedron (foot t.a) t.a t.b t.c)) = at_least_same (ap (with_sign (turns_back t)) (third_six t)) (right_by (turns_back t) (turn t) t.a.y refl proper.a) in
     (first, (second, (third, tt)))
 
-mirrored_six : (t : Tetrahedron Node) → turned_six (with_corners mirrored t) ≡ neg_ℤ (turned_six t)
+pub mirrored_six : (t : Tetrahedron Node) → turned_six (with_corners mirrored t) ≡ neg_ℤ (turned_six t)
 unfolding six_of_nodes
 mirrored_six t = ring integers (t.a.x ∷ t.a.y ∷ t.a.z ∷ t.b.x ∷ t.b.y ∷ t.b.z ∷ t.c.x ∷ t.c.y ∷ t.c.z ∷ t.d.x ∷ t.d.y ∷ t.d.z ∷ [])
     (six (var 0, opposite (var 1), var 2) (var 3, opposite (var 4), var 5) (var 6, opposite (var 7), var 8) (var 9, opposite (var 10), var 11))

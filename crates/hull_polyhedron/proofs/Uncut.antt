@@ -55,7 +55,7 @@ magnitude_whole n = ap (λ (s : Sign). magnitude_by s (whole n)) (sign-whole n) 
     go (pos (suc n)) = refl
     go (negsuc n) = sym (whole-negative (negsuc n))
 
-six_volumes : (t : Tetrahedron Node) → whole (pos 6) ⊗ volume_of (with_corners position_of t) ≡ whole (pos (six_times t))
+pub six_volumes : (t : Tetrahedron Node) → whole (pos 6) ⊗ volume_of (with_corners position_of t) ≡ whole (pos (six_times t))
 six_volumes t = ring_from fraction_ring (whole (pos 6) ∷ inverse (whole (pos 6)) ∷ magnitude (determinant (with_corners position_of t)) ∷ whole (pos (six_times t)) ∷ [])
     ((var 2, var 0 :* var 1, unit) ∷ (unit, var 2, var 3) ∷ [])
     (given (Bounds.mul-inverse_positive fractions (positive-whole 6 (omega arith))) (given (ap magnitude (whole_determinant t) ∙ magnitude_whole (turned_six t)) none))

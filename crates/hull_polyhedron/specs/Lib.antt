@@ -1,5 +1,12 @@
 pub mod Listed
 pub mod Widening
+pub mod Strips
+pub mod Totals
+pub mod Parts
+pub mod TotalsModel
+pub mod StripLists
+pub mod SideAreas
+pub mod StripsOf
 pub mod Extent
 pub mod FacesOf
 pub mod Between
@@ -9,5 +16,6 @@ pub mod CentralLaw
 pub mod Signs
 pub mod LidLaw
 pub mod SlabLaw
+pub mod StripLaw
 pub mod RisingLaw
 pub mod DamageBox

@@ -1,5 +1,5 @@
 // The boundary, listed: the aft end, strip by strip, and the fore end.
-ghost use Rattle.std.specs.Prelude.{◌≡◌, ◌++◌, map, OnOk, IfOk};
+ghost use Rattle.std.specs.Prelude.{◌≡◌, ◌++◌, length, map, OnOk, IfOk};
 ghost use Rattle.std.specs.List.{AllByRecursion, flat_map};
 ghost use Rattle.hull_model.specs.Body.{IsStation};
 ghost use Rattle.hull_model.specs.Nodes.{IsNode};
@@ -8,22 +8,31 @@ ghost use Rattle.hull_model.specs.SignedFaces as signed;
 ghost use Rattle.hull_model.specs.Strips.{corners_of};
 ghost use Rattle.hull_polyhedron.specs.Listed as triangles;
 ghost use Rattle.hull_polyhedron.specs.Listed.{kept, sides, wall, end_wall, bottom, top, strip, strips, first_end, last_end, listed};
+ghost use Rattle.hull_polyhedron.specs.Parts.{parts_from};
+ghost use Rattle.hull_polyhedron.specs.StripLists.{face_lists};
 
 use crate::FaceList;
+use crate::part::Part;
+use crate::strips::push_chain;
 use exact_fraction::Memory;
 use hull_model::{Face, Node, Station, StripTriangle, triangles_between};
 use std::alloc::Global;
 
-/// The faces of stations in order.
-pub(crate) fn listed_faces(alloc: Global, stations: &[Station]) -> Result<FaceList, Memory>
+/// The faces of stations in order, and which of them are those of each strip.
+pub(crate) fn listed_faces(
+    alloc: Global,
+    stations: &[Station],
+) -> Result<(FaceList, Vec<Part>), Memory>
     requires { AllByRecursion IsStation stations.now }
-    ensures { IfOk result (λ faces. faces ≡ kept (listed stations.now)) }
+    ensures faces { IfOk result (λ all. all.0 ≡ kept (listed stations.now)) }
+    ensures parts { IfOk result (λ all. all.1.items ≡ parts_from (length (kept (first_end stations.now))) (face_lists stations.now)) }
 {
     let mut faces = FaceList::new(alloc);
+    let mut parts = Vec::new(alloc);
     push_first_end(alloc, &mut faces, stations)?;
-    push_strips(alloc, &mut faces, stations)?;
+    push_strips(alloc, &mut faces, &mut parts, stations)?;
     push_last_end(alloc, &mut faces, stations)?;
-    Ok(faces)
+    Ok((faces, parts))
 }
 
 fn push_first_end(alloc: Global, faces: &mut FaceList, stations: &[Station]) -> Result<(), Memory>
@@ -48,13 +57,24 @@ fn push_last_end(alloc: Global, faces: &mut FaceList, stations: &[Station]) -> R
     Ok(())
 }
 
-fn push_strips(alloc: Global, faces: &mut FaceList, stations: &[Station]) -> Result<(), Memory>
+fn push_strips(
+    alloc: Global,
+    faces: &mut FaceList,
+    parts: &mut Vec<Part>,
+    stations: &[Station],
+) -> Result<(), Memory>
     requires { AllByRecursion IsStation stations.now }
-    ensures { OnOk result (faces.new ≡ faces.old ++ kept (strips stations.now)) }
+    ensures faces { OnOk result (faces.new ≡ faces.old ++ kept (strips stations.now)) }
+    ensures parts { OnOk result (parts.new.items ≡ parts.old.items ++ parts_from (length faces.old) (face_lists stations.now)) }
 {
     let mut rest = stations;
     while let [aft, fore, ..] = rest {
+        let from = faces.len();
         push_strip(alloc, faces, aft, fore)?;
+        parts.push(Part {
+            from,
+            to: faces.len(),
+        })?;
         rest = &rest[1..];
     }
     Ok(())
@@ -120,11 +140,8 @@ fn chain_of(alloc: Global, station: &Station) -> Result<Vec<Node>, Memory>
     ensures same { IfOk result (λ nodes. nodes.items ≡ chain station.now) }
     ensures limits { IfOk result (λ nodes. AllByRecursion IsNode nodes.items) }
 {
-    let x = station.x;
     let mut nodes = Vec::new(alloc);
-    for point in station.points.as_slice() {
-        nodes.push(Node::starboard(x, *point))?;
-    }
+    push_chain(&mut nodes, station)?;
     Ok(nodes)
 }
 

@@ -13,12 +13,15 @@ ghost use Rattle.hull_model.specs.Fractions.{sum_over};
 ghost use Rattle.hull_model.specs.TetrahedronCut.{with_corners};
 ghost use Rattle.hull_model.specs.Waterplane.{position_of};
 ghost use Rattle.hull_model.specs.Submerged.{first_x, last_x, volume_of};
-ghost use Rattle.hull_polyhedron.specs.Between.{AreEnds, AreHeights, LieBetween, IsReach, LieInside};
+ghost use Rattle.hull_polyhedron.specs.Between.{AreEnds, AreHeights, IsBetween, LieBetween, IsInside, IsReach, LieInside};
 ghost use Rattle.hull_polyhedron.specs.Extent.{IsLeast, IsGreatest};
 ghost use Rattle.hull_polyhedron.specs.FacesOf.{AreFacesOf};
+ghost use Rattle.hull_polyhedron.specs.Parts.{IsPartOf, AreInOrder};
+ghost use Rattle.hull_polyhedron.specs.SideAreas.{LieLow};
 
 use crate::boundary::listed_faces;
 use crate::extent::Extent;
+use crate::strips::{Strips, running_totals, strip_nodes};
 use crate::{FaceList, Faces};
 use exact_fraction::Memory;
 use hull_model::{Face, Hull, Station};
@@ -33,19 +36,36 @@ pub fn faces_of(alloc: Global, hull: &Hull) -> Result<Faces, Memory>
     ensures { IfOk result (λ faces. AreFacesOf hull.now faces) }
 {
     let stations = hull.stations();
-    let list = listed_faces(alloc, stations)?;
-    let extent = extent_of(stations);
-    Ok(assembled(list, first_x_of(stations), last_x_of(stations), extent))
+    let (list, face_parts) = listed_faces(alloc, stations)?;
+    let (nodes, node_parts) = strip_nodes(alloc, stations)?;
+    let totals = running_totals(alloc, stations)?;
+    let strips = Strips {
+        face_parts,
+        nodes,
+        node_parts,
+        totals,
+    };
+    let (first_x, last_x) = (first_x_of(stations), last_x_of(stations));
+    Ok(assembled(list, strips, first_x, last_x, extent_of(stations)))
 }
 
-fn assembled(list: FaceList, first_x: i64, last_x: i64, extent: Extent) -> Faces
+fn assembled(list: FaceList, strips: Strips, first_x: i64, last_x: i64, extent: Extent) -> Faces
     requires few { length list < 2 ^ 14 }
+    requires parts { AllByRecursion (IsPartOf (length list)) strips.face_parts.items }
     requires ends { AreEnds first_x last_x }
     requires between { LieBetween first_x last_x list }
     requires heights { AreHeights extent.low_z extent.high_z }
     requires reach { IsReach extent.half_breadth extent.high_z }
     requires inside { LieInside extent.half_breadth extent.high_z list }
+    requires nodes_between { AllByRecursion (IsBetween first_x last_x) strips.nodes.items }
+    requires nodes_inside { AllByRecursion (IsInside extent.half_breadth extent.high_z) strips.nodes.items }
+    requires order { AreInOrder strips.face_parts.items }
+    requires low { LieLow extent.half_breadth extent.high_z list strips }
     ensures list { result.list ≡ list }
+    ensures face_parts { result.strips.face_parts.items ≡ strips.face_parts.items }
+    ensures nodes { result.strips.nodes.items ≡ strips.nodes.items }
+    ensures node_parts { result.strips.node_parts.items ≡ strips.node_parts.items }
+    ensures totals { result.strips.totals.items ≡ strips.totals.items }
     ensures first_x { result.first_x ≡ first_x }
     ensures last_x { result.last_x ≡ last_x }
     ensures low_z { result.low_z ≡ extent.low_z }
@@ -54,6 +74,7 @@ fn assembled(list: FaceList, first_x: i64, last_x: i64, extent: Extent) -> Faces
 {
     Faces {
         list,
+        strips,
         first_x,
         last_x,
         low_z: extent.low_z,

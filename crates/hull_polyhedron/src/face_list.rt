@@ -1,5 +1,5 @@
 // Faces in order, each of some area.
-ghost use Rattle.std.specs.Prelude.{◌≡◌, ◌++◌, [], ◌∷◌, if◌then◌else◌, OnOk};
+ghost use Rattle.std.specs.Prelude.{◌≡◌, ◌++◌, [], ◌∷◌, if◌then◌else◌, length, OnOk};
 ghost use Rattle.std.specs.List.{AllByRecursion};
 ghost use Rattle.hull_model.specs.Nodes.{IsNode};
 ghost use Rattle.hull_model.specs.TriangleCut.{triangle};
@@ -50,6 +50,12 @@ impl FaceList {
         ensures limits { AllByRecursion IsFace self.now }
     {
         &self.list
+    }
+
+    pub(crate) fn len(&self) -> usize
+        ensures { result ≡ length self.now }
+    {
+        self.list.len()
     }
 
     /// Adds the triangle with these corners, or the same the other way round. One of no area is left out.

@@ -6,6 +6,7 @@ ghost use Rattle.hull_polyhedron.specs.LidLaw.{LidLaw, LidLawOfSolids};
 ghost use Rattle.hull_polyhedron.specs.RisingLaw.{MomentsRise, RisingLaw, WeightsAreKnown};
 ghost use Rattle.hull_polyhedron.specs.Signs.{SignsAreRight};
 ghost use Rattle.hull_polyhedron.specs.SlabLaw.{SlabLaw, FloodedLaw};
+ghost use Rattle.hull_polyhedron.specs.StripLaw.{ColumnsOfStrips, LidsOfStrips, DryStrips, DryLids, WetStrips, DeepLids, StripsMakeUpTheHull, LidsMakeUpTheLid};
 
 /// The signed faces of each tetrahedron of a hull point out of it, or its volume is 0.
 pub fn signed_faces_point_outwards()
@@ -44,6 +45,22 @@ pub fn lids_are_summed_by_faces()
 pub fn slabs_are_summed_by_columns()
     ensures between { SlabLaw }
     ensures left { FloodedLaw }
+{}
+
+/// The law of strips: at every waterplane, the volume and the integrals of what is submerged of a strip are sums over
+/// the columns of its faces alone, and those over its lid sums over their wet parts; faces in planes of constant x
+/// aren't seen. Where no point of its two stations, nor its mirror image, lies under water nothing is submerged.
+/// Where none lies above the waterplane the totals tell the volume and the integrals, and where all lie under it there
+/// is no lid. The strips make up the hull.
+pub fn strips_are_summed_by_columns()
+    ensures columns { ColumnsOfStrips }
+    ensures lids { LidsOfStrips }
+    ensures dry { DryStrips }
+    ensures dry_lids { DryLids }
+    ensures wet { WetStrips }
+    ensures deep_lids { DeepLids }
+    ensures hull { StripsMakeUpTheHull }
+    ensures hull_lids { LidsMakeUpTheLid }
 {}
 
 /// What a column is, and what is seen of a face's wet part, by the means over the wet part of a face and by

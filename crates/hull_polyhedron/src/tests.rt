@@ -84,6 +84,35 @@ fn the_barge_has_32_faces(rt: HostRuntime) -> Result<(), Fail> {
 }
 
 #[test]
+fn the_barge_has_two_strips(rt: HostRuntime) -> Result<(), Fail> {
+    let (_, _, faces) = counted(rt.alloc(), BARGE)?.expect(&rt, "a hull");
+    assert_eq!(rt; faces.strips(), 2);
+    if faces.strips() == 2 {
+        let both = faces.total(0, 2);
+        assert_eq!(rt;
+            (both.six, both.mx24, both.mz24),
+            (120000000000000, 24000000000000000000, 2400000000000000000)
+        );
+        let aft = faces.total(0, 1);
+        assert_eq!(rt;
+            (aft.six, aft.mx24, aft.mz24),
+            (60000000000000, 6000000000000000000, 1200000000000000000)
+        );
+        let none = faces.total(1, 1);
+        assert_eq!(rt; (none.six, none.mx24, none.mz24), (0, 0, 0));
+        assert_eq!(rt;
+            (faces.strip_faces(0).len(), faces.strip_faces(1).len()),
+            (12, 12)
+        );
+        assert_eq!(rt;
+            (faces.strip_nodes(0).len(), faces.strip_nodes(1).len()),
+            (4, 4)
+        );
+    }
+    Ok(())
+}
+
+#[test]
 fn the_cargo_ship_has_548_faces(rt: HostRuntime) -> Result<(), Fail> {
     let (count, flat, faces) = counted(rt.alloc(), CARGO)?.expect(&rt, "a hull");
     assert_eq!(rt; (count, flat), (1170, 30));

@@ -20,3 +20,9 @@ returns-clause-gz_ends c = on_both (λ s. EndsAtMost (2 ^ 92 + 2 ^ 77) s.lo s.hi
 pub returns-clause-sep_ends : goal.returns-clause-sep_ends
 returns-clause-sep_ends c = on_both (λ s. EndsAtMost (2 ^ 77 + 2 ^ 94) s.lo s.hi) (λ s. EndsBelow 95 s.lo s.hi) (λ s h. at_most_below (2 ^ 77 + 2 ^ 94) 95 (omega arith) h) c.levers_of.result.sep
     (c.levers_of.ensures.sep_ends (2 ^ 94) (at_most_wider (3 * 2 ^ 111) (2 ^ 94 * 500000) (omega arith) c.measure-below.ensures.mu_ends))
+
+pub returns-clause-gz : goal.returns-clause-gz
+returns-clause-gz c stations hull are plane is = c.levers_of.ensures.gz plane _ is.direction (c.measure-below.ensures.mv stations hull are plane is)
+
+pub returns-clause-sep : goal.returns-clause-sep
+returns-clause-sep c stations hull are plane is = c.levers_of.ensures.sep plane _ is.direction (c.measure-below.ensures.mu stations hull are plane is)

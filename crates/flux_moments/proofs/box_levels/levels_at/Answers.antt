@@ -1,7 +1,7 @@
 use Rattle.std.proofs.Common.{arith}
 use Rattle.std.proofs.lemmas.Int.{ints, to_z-of_z}
 use Rattle.flux_moments.proofs.Levels.{level_fits}
-use Rattle.flux_moments.proofs.PlaceLevels.{same_ends, level_contained, level_narrow, level_near}
+use Rattle.flux_moments.proofs.PlaceLevels.{same_ends, level_contained, level_narrow, level_near, least_level, greatest_level}
 use Rattle.flux_moments.proofs.box_levels.levels_at.Goals as goal
 use Rattle.flux_moments.proofs.box_levels.levels_at.Goals.{else-planes-via-then-planes+else-planes-2, else-planes-via-else-planes}
 
@@ -52,3 +52,27 @@ returns-else-planes-clause-level c d1 d2 aft fore = absurd (elim c.else-planes.b
   | else-planes-via-then-planes+else-planes-2 w ↦ omega (arith, ints, w.if-planes-2.false, aft.1, fore.1)
   | else-planes-via-else-planes w ↦ omega (arith, ints, w.if-planes.false, aft.0, fore.0)
 ])
+
+pub returns-then-planes-2-clause-least : goal.returns-then-planes-2-clause-least
+returns-then-planes-2-clause-least c plane aft fore =
+    let planes = c.args.planes.now in
+    let units = simp (to_z-of_z, level_fits planes.a1 planes.levels.first, level_fits planes.a2 planes.levels.second) at c.same_levels.ensures.units in
+    least_level planes c.args.way c.args.x _ _ c.requires.0 c.requires.1
+    (same_ends planes c.args.way c.args.x _ _ c.requires.0 c.requires.1 (omega (arith, ints, c.if-planes.true))
+    (omega (arith, ints, c.if-planes-2.true)) units) plane aft fore
+
+pub returns-else-planes-clause-least : goal.returns-else-planes-clause-least
+returns-else-planes-clause-least c plane aft fore =
+    least_level c.args.planes.now c.args.way c.args.x _ _ c.requires.0 c.requires.1 (simp (to_z-of_z, c.ranges.x) at c.trimmed_levels_at.ensures.levels) plane aft fore
+
+pub returns-then-planes-2-clause-greatest : goal.returns-then-planes-2-clause-greatest
+returns-then-planes-2-clause-greatest c plane aft fore =
+    let planes = c.args.planes.now in
+    let units = simp (to_z-of_z, level_fits planes.a1 planes.levels.first, level_fits planes.a2 planes.levels.second) at c.same_levels.ensures.units in
+    greatest_level planes c.args.way c.args.x _ _ c.requires.0 c.requires.1
+    (same_ends planes c.args.way c.args.x _ _ c.requires.0 c.requires.1 (omega (arith, ints, c.if-planes.true))
+    (omega (arith, ints, c.if-planes-2.true)) units) plane aft fore
+
+pub returns-else-planes-clause-greatest : goal.returns-else-planes-clause-greatest
+returns-else-planes-clause-greatest c plane aft fore =
+    greatest_level c.args.planes.now c.args.way c.args.x _ _ c.requires.0 c.requires.1 (simp (to_z-of_z, c.ranges.x) at c.trimmed_levels_at.ensures.levels) plane aft fore

@@ -1,4 +1,4 @@
-use Rattle.std.proofs.Common.{w64}
+use Rattle.std.proofs.Common.{refl, w64}
 use Rattle.std.proofs.lemmas.Int.{to_z-of_z}
 use mir.Val.{SFits}
 use Rattle.exact_algebra.proofs.Whole.{whole}
@@ -11,6 +11,7 @@ use Rattle.outward_interval.specs.Widths.{units}
 use Rattle.flux_moments.specs.Sizes.{distance, spread}
 use Rattle.flux_moments.proofs.BoxWidths.{depth_narrow, depth_near}
 use Rattle.flux_moments.proofs.LevelEnds.{depth_same}
+use Rattle.flux_moments.proofs.NearDepths.{least_plane, greatest_plane, least_is_in, greatest_is_in, under_by, out_by}
 use Rattle.flux_moments.proofs.corner.depth_of.Goals as goal
 
 pub returns-clause-contains : goal.returns-clause-contains
@@ -40,3 +41,19 @@ returns-clause-near c b h is reached =
 
 pub returns-clause-level : goal.returns-clause-level
 returns-clause-level c d1 d2 is = depth_same (c.levels_at.ensures.level d1 d2 is.aft is.fore) (c.height_of.ensures.upright is.cosine is.sine) c.sub.ensures
+
+pub returns-clause-under : goal.returns-clause-under
+returns-clause-under c b h is reached all =
+    let plane = least_plane c.args.planes.now in
+    let x : SFits w64 c.args.node.x = place_fits c.args.node c.requires.node in
+    under_by c.args.planes.now b h is c.args.node reached c.args.way.first c.args.way.last c.levels_at.result c.height_of.result c.sub.result
+    (c.height_of.ensures.narrow b.turn is.cosine is.sine) c.sub.ensures plane (c.height_of.ensures.contains plane (least_is_in c.args.planes.now).direction)
+    (simp to_z-of_z at (c.levels_at.ensures.least plane refl refl)) (all plane (least_is_in c.args.planes.now))
+
+pub returns-clause-out : goal.returns-clause-out
+returns-clause-out c b h is reached all =
+    let plane = greatest_plane c.args.planes.now in
+    let x : SFits w64 c.args.node.x = place_fits c.args.node c.requires.node in
+    out_by c.args.planes.now b h is c.args.node reached c.args.way.first c.args.way.last c.levels_at.result c.height_of.result c.sub.result
+    (c.height_of.ensures.narrow b.turn is.cosine is.sine) c.sub.ensures plane (c.height_of.ensures.contains plane (greatest_is_in c.args.planes.now).direction)
+    (simp to_z-of_z at (c.levels_at.ensures.greatest plane refl refl)) (all plane (greatest_is_in c.args.planes.now))

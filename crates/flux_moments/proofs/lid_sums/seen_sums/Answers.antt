@@ -1,4 +1,4 @@
-use Rattle.std.proofs.Common.{◌^◌, arith}
+use Rattle.std.proofs.Common.{◌^◌, length, arith}
 use Rattle.exact_algebra.proofs.Fraction.{one}
 use Rattle.flux_moments.specs.Columns.{lid_part}
 use Rattle.flux_moments.proofs.ColumnSums.{one_list, sum-allowed, sum-step, sum-end, sum-ends}
@@ -68,40 +68,32 @@ returns-clause-area c = sum-end (IsLevel c.args.planes.now c.args.way.first c.ar
     (λ at. lid_part at c.args.way.first c.args.way.last (λ p. one) (λ p. one)) 2 (2 ^ 58) (one_list c.args.faces.now) c.loop-face.face-index
     c.loop-face.sums.area c.loop-face-test.false c.loop-face.invariant.area
 
-pub returns-clause-area_ends : goal.returns-clause-area_ends
-returns-clause-area_ends c = sum-ends (IsLevel c.args.planes.now c.args.way.first c.args.way.last c.args.faces.now)
-    (λ at. lid_part at c.args.way.first c.args.way.last (λ p. one) (λ p. one)) 2 (2 ^ 58) (one_list c.args.faces.now) 16383 c.loop-face.face-index
-    c.loop-face.sums.area (omega (arith, c.requires.few)) c.loop-face.invariant.area
-
 pub returns-clause-sx : goal.returns-clause-sx
 returns-clause-sx c = sum-end (IsLevel c.args.planes.now c.args.way.first c.args.way.last c.args.faces.now)
     (λ at. lid_part at c.args.way.first c.args.way.last (λ p. p.x) (λ p. one)) 2 (2 ^ 79) (one_list c.args.faces.now) c.loop-face.face-index c.loop-face.sums.sx
     c.loop-face-test.false c.loop-face.invariant.sx
-
-pub returns-clause-sx_ends : goal.returns-clause-sx_ends
-returns-clause-sx_ends c = sum-ends (IsLevel c.args.planes.now c.args.way.first c.args.way.last c.args.faces.now)
-    (λ at. lid_part at c.args.way.first c.args.way.last (λ p. p.x) (λ p. one)) 2 (2 ^ 79) (one_list c.args.faces.now) 16383 c.loop-face.face-index c.loop-face.sums.sx
-    (omega (arith, c.requires.few)) c.loop-face.invariant.sx
 
 pub returns-clause-syy : goal.returns-clause-syy
 returns-clause-syy c = sum-end (IsLevel c.args.planes.now c.args.way.first c.args.way.last c.args.faces.now)
     (λ at. lid_part at c.args.way.first c.args.way.last (λ p. p.y) (λ p. p.y)) 2 (2 ^ 100) (one_list c.args.faces.now) c.loop-face.face-index
     c.loop-face.sums.syy c.loop-face-test.false c.loop-face.invariant.syy
 
-pub returns-clause-syy_ends : goal.returns-clause-syy_ends
-returns-clause-syy_ends c = sum-ends (IsLevel c.args.planes.now c.args.way.first c.args.way.last c.args.faces.now)
-    (λ at. lid_part at c.args.way.first c.args.way.last (λ p. p.y) (λ p. p.y)) 2 (2 ^ 100) (one_list c.args.faces.now) 16383 c.loop-face.face-index
-    c.loop-face.sums.syy (omega (arith, c.requires.few)) c.loop-face.invariant.syy
-
 pub returns-clause-sxx : goal.returns-clause-sxx
 returns-clause-sxx c = sum-end (IsLevel c.args.planes.now c.args.way.first c.args.way.last c.args.faces.now)
     (λ at. lid_part at c.args.way.first c.args.way.last (λ p. p.x) (λ p. p.x)) 2 (2 ^ 100) (one_list c.args.faces.now) c.loop-face.face-index
     c.loop-face.sums.sxx c.loop-face-test.false c.loop-face.invariant.sxx
 
-pub returns-clause-sxx_ends : goal.returns-clause-sxx_ends
-returns-clause-sxx_ends c = sum-ends (IsLevel c.args.planes.now c.args.way.first c.args.way.last c.args.faces.now)
-    (λ at. lid_part at c.args.way.first c.args.way.last (λ p. p.x) (λ p. p.x)) 2 (2 ^ 100) (one_list c.args.faces.now) 16383 c.loop-face.face-index
-    c.loop-face.sums.sxx (omega (arith, c.requires.few)) c.loop-face.invariant.sxx
+pub returns-clause-ends : goal.returns-clause-ends
+returns-clause-ends c = record {
+  area = sum-ends (IsLevel c.args.planes.now c.args.way.first c.args.way.last c.args.faces.now) (λ at. lid_part at c.args.way.first c.args.way.last (λ p. one) (λ p. one)) 2 (2 ^ 58) (one_list c.args.faces.now)
+      (length c.args.faces.now) c.loop-face.face-index c.loop-face.sums.area (omega arith) c.loop-face.invariant.area;
+  sx = sum-ends (IsLevel c.args.planes.now c.args.way.first c.args.way.last c.args.faces.now) (λ at. lid_part at c.args.way.first c.args.way.last (λ p. p.x) (λ p. one)) 2 (2 ^ 79) (one_list c.args.faces.now)
+      (length c.args.faces.now) c.loop-face.face-index c.loop-face.sums.sx (omega arith) c.loop-face.invariant.sx;
+  syy = sum-ends (IsLevel c.args.planes.now c.args.way.first c.args.way.last c.args.faces.now) (λ at. lid_part at c.args.way.first c.args.way.last (λ p. p.y) (λ p. p.y)) 2 (2 ^ 100) (one_list c.args.faces.now)
+      (length c.args.faces.now) c.loop-face.face-index c.loop-face.sums.syy (omega arith) c.loop-face.invariant.syy;
+  sxx = sum-ends (IsLevel c.args.planes.now c.args.way.first c.args.way.last c.args.faces.now) (λ at. lid_part at c.args.way.first c.args.way.last (λ p. p.x) (λ p. p.x)) 2 (2 ^ 100) (one_list c.args.faces.now)
+      (length c.args.faces.now) c.loop-face.face-index c.loop-face.sums.sxx (omega arith) c.loop-face.invariant.sxx;
+}
 
 pub returns-clause-widths : goal.returns-clause-widths
 returns-clause-widths c = lid-end c.args.planes.now c.args.way.first c.args.way.last c.args.faces.now c.loop-face.face-index c.loop-face.sums

@@ -1,9 +1,14 @@
-use Rattle.std.proofs.Common.{arith}
+use Rattle.std.proofs.Common.{arith, ap, length}
 use Rattle.hull_cli.proofs.AllLines.{three_joined}
 use Rattle.hull_cli.proofs.Counts.{few_damages}
 use Rattle.hull_cli.proofs.Listed.{of_each_ok}
 use Rattle.hull_cli.specs.Tables.{AreShipLines}
 use Rattle.hull_cli.proofs.all.ship_lines.Goals as goal
+
+pub case_lines-requires-clause-few : goal.case_lines-requires-clause-few
+case_lines-requires-clause-few c =
+    let job = c.args.job.now in
+    omega (arith, few_damages job.items job.openings job.compartments job.damages job.room, ap length c.as_slice-damages.ensures)
 
 pub returns-clause-lines : goal.returns-clause-lines
 returns-clause-lines c =
